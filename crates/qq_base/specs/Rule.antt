@@ -1,0 +1,110 @@
+-- The table of the rules of the language profile: their numbers and their names.
+use Rattle.std.specs.Prelude.{ℕ, List, codes}
+use Rattle.qq_base.specs.declared.rule.Rule.{Rule}
+use Rattle.qq_base.specs.declared.rule.Rule.TheVariants.{NotBuilt, InputTooLong, NotUtf8, BadCharacter, OpenComment, OpenString, LiteralRange, FloatLiteral, NestingDeep, Syntax, Version, LeftOut, Include, Unknown, Redeclared, WrongKind, WidthRange, TypeMismatch, NoCast, NotConstant, ConstRange, ConstDivide, NotPiMultiple, NotDyadic, TurnRange, IndexRange, StepZero, SizeMismatch, RepeatedQubit, ArgumentCount, PowRange, InverseOutsideTable, ControlOutsideTable, Recursion, ReturnMissing, ReturnPlace, LoopPlace, AssignConst, DivisorRange, ShiftRange, CallPlace, CallDepth, MixedQubits, QubitRange, CellRange, OutputPlace, TooLarge, TooManyJoints, DeclarationPlace, LoopWidth}
+
+-- what stands behind the Q
+abbrev pub number_of : Rule → ℕ
+number_of NotBuilt = 0
+number_of InputTooLong = 1
+number_of NotUtf8 = 2
+number_of BadCharacter = 3
+number_of OpenComment = 4
+number_of OpenString = 5
+number_of LiteralRange = 6
+number_of FloatLiteral = 7
+number_of NestingDeep = 8
+number_of Syntax = 9
+number_of Version = 10
+number_of LeftOut = 11
+number_of Include = 12
+number_of Unknown = 13
+number_of Redeclared = 14
+number_of WrongKind = 15
+number_of WidthRange = 16
+number_of TypeMismatch = 17
+number_of NoCast = 18
+number_of NotConstant = 19
+number_of ConstRange = 20
+number_of ConstDivide = 21
+number_of NotPiMultiple = 22
+number_of NotDyadic = 23
+number_of TurnRange = 24
+number_of IndexRange = 25
+number_of StepZero = 26
+number_of SizeMismatch = 27
+number_of RepeatedQubit = 28
+number_of ArgumentCount = 29
+number_of PowRange = 30
+number_of InverseOutsideTable = 31
+number_of ControlOutsideTable = 32
+number_of Recursion = 33
+number_of ReturnMissing = 34
+number_of ReturnPlace = 35
+number_of LoopPlace = 36
+number_of AssignConst = 37
+number_of DivisorRange = 38
+number_of ShiftRange = 39
+number_of CallPlace = 40
+number_of CallDepth = 41
+number_of MixedQubits = 42
+number_of QubitRange = 43
+number_of CellRange = 44
+number_of OutputPlace = 45
+number_of TooLarge = 46
+number_of TooManyJoints = 47
+number_of DeclarationPlace = 48
+number_of LoopWidth = 49
+
+-- what stands behind the number
+abbrev pub name_of : Rule → List ℕ
+name_of NotBuilt = codes "NotBuilt"
+name_of InputTooLong = codes "InputTooLong"
+name_of NotUtf8 = codes "NotUtf8"
+name_of BadCharacter = codes "BadCharacter"
+name_of OpenComment = codes "OpenComment"
+name_of OpenString = codes "OpenString"
+name_of LiteralRange = codes "LiteralRange"
+name_of FloatLiteral = codes "FloatLiteral"
+name_of NestingDeep = codes "NestingDeep"
+name_of Syntax = codes "Syntax"
+name_of Version = codes "Version"
+name_of LeftOut = codes "LeftOut"
+name_of Include = codes "Include"
+name_of Unknown = codes "Unknown"
+name_of Redeclared = codes "Redeclared"
+name_of WrongKind = codes "WrongKind"
+name_of WidthRange = codes "WidthRange"
+name_of TypeMismatch = codes "TypeMismatch"
+name_of NoCast = codes "NoCast"
+name_of NotConstant = codes "NotConstant"
+name_of ConstRange = codes "ConstRange"
+name_of ConstDivide = codes "ConstDivide"
+name_of NotPiMultiple = codes "NotPiMultiple"
+name_of NotDyadic = codes "NotDyadic"
+name_of TurnRange = codes "TurnRange"
+name_of IndexRange = codes "IndexRange"
+name_of StepZero = codes "StepZero"
+name_of SizeMismatch = codes "SizeMismatch"
+name_of RepeatedQubit = codes "RepeatedQubit"
+name_of ArgumentCount = codes "ArgumentCount"
+name_of PowRange = codes "PowRange"
+name_of InverseOutsideTable = codes "InverseOutsideTable"
+name_of ControlOutsideTable = codes "ControlOutsideTable"
+name_of Recursion = codes "Recursion"
+name_of ReturnMissing = codes "ReturnMissing"
+name_of ReturnPlace = codes "ReturnPlace"
+name_of LoopPlace = codes "LoopPlace"
+name_of AssignConst = codes "AssignConst"
+name_of DivisorRange = codes "DivisorRange"
+name_of ShiftRange = codes "ShiftRange"
+name_of CallPlace = codes "CallPlace"
+name_of CallDepth = codes "CallDepth"
+name_of MixedQubits = codes "MixedQubits"
+name_of QubitRange = codes "QubitRange"
+name_of CellRange = codes "CellRange"
+name_of OutputPlace = codes "OutputPlace"
+name_of TooLarge = codes "TooLarge"
+name_of TooManyJoints = codes "TooManyJoints"
+name_of DeclarationPlace = codes "DeclarationPlace"
+name_of LoopWidth = codes "LoopWidth"
