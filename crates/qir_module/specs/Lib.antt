@@ -1,0 +1,7 @@
+pub mod Functions
+pub mod Items
+pub mod Machine
+pub mod Module
+pub mod Numbered
+pub mod Text
+pub mod Written
