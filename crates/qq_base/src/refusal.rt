@@ -39,3 +39,14 @@ pub enum Fault {
     Memory,
     Refused(Refusal),
 }
+
+impl From<NoMemory> for Fault {
+    ghost use Rattle.qq_base.specs.declared.refusal.Fault.TheVariants.{Memory};
+    ghost use Rattle.std.specs.Prelude.{◌≡◌};
+
+    ghost from_gives = { λ _ fault. fault ≡ Memory };
+
+    fn from(_error: NoMemory) -> Fault {
+        Fault::Memory
+    }
+}
