@@ -1,0 +1,31 @@
+//! Exact arithmetic on fractions of pi, and a fraction of pi as parts of a turn.
+//!
+//! The constant angles of a program are fractions of pi. `PiFraction` holds one in lowest terms, and
+//! each call computes as on whole numbers without bound: it gives the exact fraction, number of units
+//! or count, or a refusal exactly where its clause says so. No call takes memory.
+//!
+//! The crate stands on std alone.
+//!
+//! A contract sees a `PiFraction` as the pair of its two whole numbers, `Fraction` of
+//! `specs/Fraction.antt`, where two fractions are the same if their cross products are equal. The layer
+//! above uses:
+//!
+//! - of `angle_add`, `angle_sub`, `angle_mul` and `angle_div`, that an Ok is the exact result (`exact`)
+//!   in lowest terms (`lowest`), that `Range` comes exactly where no fraction with numbers of at most
+//!   2^62 in size is the result (`range`), `Divide` exactly at the divisor 0 (`divide`), and no other
+//!   refusal (`refusals`);
+//! - of `angle_cmp`, that its answer is the order of the two fractions, and that two values of the same
+//!   fraction are equal (`unique`);
+//! - of `to_units` and `to_angle`, that an Ok is the whole number of parts (`units`, `count`), and each
+//!   refusal exactly by its cause (`not_dyadic`, `turn_range`, `refusals`).
+#![tactic(auto)]
+
+mod arithmetic;
+mod fraction;
+mod parts;
+#[cfg(test)]
+mod tests;
+
+pub use arithmetic::{angle_add, angle_cmp, angle_div, angle_mul, angle_sub};
+pub use fraction::{AngleRefusal, PiFraction};
+pub use parts::{to_angle, to_units};
