@@ -1,1 +1,3 @@
-mod Worked
+pub mod Calls
+pub mod Numbers
+pub mod Worked

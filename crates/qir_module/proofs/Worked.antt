@@ -72,7 +72,7 @@ abbrev nothing : Module
 nothing = one_block [] (call 0 (Id 0 ∷ []) ∷ []) (0 ∷ []) 0 0
 
 -- a Bell pair, measured
-abbrev bell_pair : Module
+abbrev pub bell_pair : Module
 bell_pair = one_block
     ((codes "c" ++ 0 ∷ []) ∷ (codes "c[0]" ++ 0 ∷ []) ∷ (codes "c[1]" ++ 0 ∷ []) ∷ [])
     (call 0 (Id 0 ∷ []) ∷ call 10 (Id 0 ∷ []) ∷ call 22 (Id 0 ∷ Id 1 ∷ [])

@@ -1,0 +1,7 @@
+use Rattle.std.proofs.Common.{◌≡◌, ◌++◌, map, take}
+use Rattle.qir_module.specs.Text.{comma_joined}
+use Rattle.qir_module.specs.Written.{arg_text}
+use Rattle.qir_writer.proofs.instruction.write_args.Given as goal
+
+abbrev pub invariant-loop-index : goal.invariant-loop-index
+invariant-loop-index l = l.out.items ≡ l.fn.out.items ++ comma_joined (map arg_text (take l.index l.args))
