@@ -1,6 +1,6 @@
 //! A sink in memory.
 
-ghost use Rattle.std.specs.Prelude.{◌≡◌, ◌+◌, ◌-◌, ◌^◌, ◌<◌, ◌≤◌, ◌↔◌, ◌⊎◌, [], min, length, Contains, IfOk, IsErr, IsTrue, OnErr, Some};
+ghost use Rattle.std.specs.Prelude.{◌≡◌, ◌+◌, ◌-◌, ◌^◌, ◌<◌, ◌≤◌, ◌↔◌, ◌⊎◌, [], min, length, Contains, IfOk, IsErr, IsTrue, OnErr, Some, is_ok, if◌then◌else◌};
 ghost use Rattle.std.specs.Io.KnownBytes.{WriteAppends};
 ghost use Rattle.qq_streams.specs.Faults.{HasRisen};
 
@@ -95,6 +95,8 @@ impl Sink for MemorySink {
         ensures takes { IfOk result (λ n. n ≡ min (length piece.now) (min self.old.piece (self.old.room - length self.old.taken))) }
         ensures calls { self.new.calls ≡ min (self.old.calls + 1) (2 ^ 64 - 1) }
         ensures failing { self.new.failing ≡ self.old.failing }
+        ensures kept { (self.new.room ≡ self.old.room) × (self.new.piece ≡ self.old.piece) }
+        ensures faults { self.new.faults ≡ (if is_ok result then self.old.faults else min (self.old.faults + 1) (2 ^ 64 - 1)) }
     {
         let call = self.calls;
         self.calls = self.calls.saturating_add(1);

@@ -1,6 +1,6 @@
 //! Reading a source to its end.
 
-ghost use Rattle.std.specs.Prelude.{ℕ, ◌≤◌, ◌<◌, List, length, IfOk, OnErr, IsErrOf};
+ghost use Rattle.std.specs.Prelude.{ℕ, ◌+◌, ◌≤◌, ◌<◌, List, length, IfOk, OnErr, IsErrOf};
 ghost use Rattle.std.specs.Io.KnownBytes.{Consumes, IsAtEnd};
 ghost use Rattle.qq_streams.specs.Faults.{HasRisen};
 
@@ -25,7 +25,7 @@ const PIECE: usize = 4096;
 /// Reads all that is left, of at most `limit` bytes. `TooLong` comes exactly where more than `limit` bytes
 /// came, as soon as they did; `ReadFault` only where the source's count of faults rose in this call;
 /// `Memory` for want of memory. After each of the three some bytes from the front of what was left are
-/// gone, after `TooLong` more than `limit`.
+/// gone, after `ReadFault` at most `limit`, and after `TooLong` more, by less than a piece.
 pub fn read_all<S: Source>(
     alloc: Global,
     source: &mut S,
@@ -35,8 +35,10 @@ pub fn read_all<S: Source>(
     ensures end { IfOk result (λ bytes. IsAtEnd (S.left source.new)) }
     ensures within { IfOk result (λ bytes. length bytes.items ≤ limit) }
     ensures too_long { IsErrOf result ReadAllFault.TooLong → (front : List ℕ) ×
-        Consumes (S.left source.old) (S.left source.new) front × (limit < length front) }
+        Consumes (S.left source.old) (S.left source.new) front × (limit < length front) × (length front ≤ limit + PIECE) }
     ensures fault { IsErrOf result ReadAllFault.ReadFault → HasRisen (S.faults source.old) (S.faults source.new) }
+    ensures cut { IsErrOf result ReadAllFault.ReadFault → (front : List ℕ) ×
+        Consumes (S.left source.old) (S.left source.new) front × (length front ≤ limit) }
     ensures moved { OnErr result ((front : List ℕ) × Consumes (S.left source.old) (S.left source.new) front) }
     ensures count { S.faults source.old ≤ S.faults source.new }
 {

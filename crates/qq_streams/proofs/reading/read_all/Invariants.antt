@@ -9,6 +9,7 @@ invariant-loop-piece g l =
     let faults = g.S.Source.faults in
     record {
       gone : Consumes (left l.fn.source) (left l.source) l.bytes.items;
+      short : length l.bytes.items ≤ l.limit + 4096;
       count : faults l.fn.source ≤ faults l.source;
     }
 
