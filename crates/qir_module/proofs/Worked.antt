@@ -177,10 +177,10 @@ written_bell_pair = refl
 -- ---- their numbers
 
 pub coin_numbered : IsNumbered coin
-coin_numbered = record { names = (refl, tt); registers = (refl, tt); results = (refl, tt); required = refl; reads = ((tt, (tt, (tt, (refl, (tt, tt))))), tt); declarations = refl }
+coin_numbered = record { names = (refl, tt); registers = (refl, tt); named = ((tt, (tt, (tt, (tt, (tt, tt))))), tt); results = (refl, tt); required = refl; reads = ((tt, (tt, (tt, (refl, (tt, tt))))), tt); declarations = refl }
 
 pub bell_pair_numbered : IsNumbered bell_pair
-bell_pair_numbered = record { names = (refl, tt); registers = (refl, (refl, tt)); results = (refl, (refl, tt)); required = refl; reads = ((tt, (tt, (tt, (tt, (refl, (tt, (refl, (tt, (tt, (tt, tt)))))))))), tt); declarations = refl }
+bell_pair_numbered = record { names = (refl, tt); registers = (refl, (refl, tt)); named = ((tt, (tt, (tt, (tt, (tt, (tt, (tt, (tt, (tt, (tt, tt)))))))))), tt); results = (refl, (refl, tt)); required = refl; reads = ((tt, (tt, (tt, (tt, (refl, (tt, (refl, (tt, (tt, (tt, tt)))))))))), tt); declarations = refl }
 
 pub bell_pair_items : items_of (bell_pair.blocks) ≡ 12
 bell_pair_items = refl

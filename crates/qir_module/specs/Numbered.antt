@@ -1,6 +1,6 @@
 -- The order of the numbers in a module, as the compiler writes them.
 use Rattle.std.specs.Prelude.{ℕ, zero, suc, ◌≡◌, nat_eq, Bool, List, [], ◌∷◌, ◌++◌, length, map, Option, Some, None}
-use Rattle.std.specs.List.{flat_map, filter, list_any}
+use Rattle.std.specs.List.{flat_map, filter, list_any, AllByRecursion}
 use Rattle.qir_module.specs.declared.instruction.Arg.{Arg}
 use Rattle.qir_module.specs.declared.instruction.Arg.TheVariants.{Id}
 use Rattle.qir_module.specs.declared.instruction.Instr.{Instr}
@@ -73,6 +73,18 @@ abbrev pub IsReadOf : List ℕ → List ℕ → Type 0
 IsReadOf measured [] = Unit {0}
 IsReadOf measured (k ∷ ks) = measured ≡ k ∷ []
 
+-- a measurement names a qubit and a result, and a reading names a result
+abbrev pub NamesResult : Option Task → List Arg → Type 0
+NamesResult (Some MeasureQubit) (Id q ∷ Id k ∷ []) = Unit {0}
+NamesResult (Some MeasureQubit) _ = ⊥
+NamesResult (Some ReadResult) (Id k ∷ []) = Unit {0}
+NamesResult (Some ReadResult) _ = ⊥
+NamesResult _ _ = Unit {0}
+
+abbrev pub IsNamed : Instr → Type 0
+IsNamed (Call register function args) = NamesResult (task_of (row_of function.0)) args
+IsNamed _ = Unit {0}
+
 -- each reading stands right behind the measurement of its result; `measured` is what is measured right in front
 abbrev pub ReadsFollow : List ℕ → List Instr → Type 0
 ReadsFollow measured [] = Unit {0}
@@ -93,6 +105,7 @@ pub record IsNumbered (m : Module) : Type 0 where
   -- registers are 0, 1, 2 and so on, in the order of their assignments
   pub registers : CountsFrom 0 (flat_map block_registers m.blocks)
   -- the k-th measurement is of result k, and all of them are required
+  pub named : AllByRecursion (λ (b : Block). AllByRecursion IsNamed b.body) m.blocks
   pub results : CountsFrom 0 (measured_results m.blocks)
   pub required : m.results ≡ length (measured_results m.blocks)
   pub reads : EachReadsFollow m.blocks
