@@ -1,0 +1,13 @@
+mod Lengths
+mod Lines
+mod Loop
+mod Lowering
+mod Numbers
+mod Orders
+mod Pieces
+mod Prefixes
+mod Runs
+mod Shapes
+mod Telling
+mod Texts
+mod Worked

@@ -1,0 +1,10 @@
+pub mod Answer
+pub mod Command
+pub mod Compiled
+pub mod Due
+pub mod Laws
+pub mod Lowered
+pub mod Reading
+pub mod Refused
+pub mod Thin
+pub mod ThinRun

@@ -1,0 +1,42 @@
+//! Laws over all texts and all runs. No program calls these functions; each has an empty body, and its
+//! contract is the law.
+
+ghost use Rattle.std.specs.Prelude.{◌≡◌, ℕ, List};
+ghost use Rattle.qir_module.specs.Machine.{machine_run};
+ghost use Rattle.qir_module.specs.Module.{Module};
+ghost use Rattle.qq_base.specs.declared.refusal.Refusal.{Refusal};
+ghost use Rattle.qq_tool.specs.Compiled.{Implements};
+ghost use Rattle.qq_tool.specs.Laws.{EndedRunsStay, UnfinishedRunsGoOn};
+ghost use Rattle.qq_tool.specs.Refused.{IsRefused};
+ghost use Rattle.qq_tool.specs.ThinRun.{source_run};
+ghost use Rattle.qq_tool.specs.Thin.{Thin, Spells, IsThinText};
+
+/// A text spells one thin program at most.
+pub fn one_program()
+    ensures { (bytes : List ℕ) (p q : Thin) → Spells bytes p → Spells bytes q → p ≡ q }
+{}
+
+/// A thin text is never refused: it is short enough, and of the form that is built.
+pub fn thin_texts_are_accepted()
+    ensures { (bytes : List ℕ) (refusal : Refusal) → IsThinText bytes → ¬ IsRefused bytes refusal }
+{}
+
+/// Where the run of a thin program ended, more turns and further outcomes show the same.
+pub fn ended_source_runs_stay()
+    ensures { (p : Thin) → EndedRunsStay (source_run p) }
+{}
+
+/// Where it did not end, more turns and further outcomes show the same events first.
+pub fn unfinished_source_runs_go_on()
+    ensures { (p : Thin) → UnfinishedRunsGoOn (source_run p) }
+{}
+
+/// Where the run of a compiled module ended, more turns and further outcomes show the same.
+pub fn ended_module_runs_stay()
+    ensures { (p : Thin) (m : Module) → Implements m p → EndedRunsStay (machine_run m) }
+{}
+
+/// Where it did not end, more turns and further outcomes show the same events first.
+pub fn unfinished_module_runs_go_on()
+    ensures { (p : Thin) (m : Module) → Implements m p → UnfinishedRunsGoOn (machine_run m) }
+{}
