@@ -1,0 +1,4 @@
+pub mod Greatest
+pub mod Seen
+pub mod Steps
+pub mod Levels

@@ -1,0 +1,4 @@
+pub mod Tree
+pub mod Level
+pub mod Whole
+pub mod Shallow
