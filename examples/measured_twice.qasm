@@ -1,0 +1,10 @@
+OPENQASM 3.0;
+include "stdgates.inc";
+qubit[2] q;
+bit[3] c;
+x q[0];
+c[2] = measure q[0];
+h q[1];
+c[0] = measure q[1];
+x q[1];
+c[0] = measure q[1];
