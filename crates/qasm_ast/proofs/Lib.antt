@@ -2,3 +2,4 @@ pub mod Greatest
 pub mod Seen
 pub mod Steps
 pub mod Levels
+pub mod Sample

@@ -97,3 +97,6 @@ pub fn trees_stay()
     ensures { (names more : List (List ℕ)) (exprs later : List Expr) (id : ℕ) → ExprsFit (length names) 0 exprs → id < length exprs →
         tree_of (names ++ more) (exprs ++ later) id ≡ tree_of names exprs id }
 {}
+
+#[cfg(test)]
+mod tests;

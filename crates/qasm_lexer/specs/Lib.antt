@@ -1,0 +1,5 @@
+pub mod Characters
+pub mod Tables
+pub mod Spelling
+pub mod Tokens
+pub mod Scan

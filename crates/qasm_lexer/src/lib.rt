@@ -1,0 +1,19 @@
+// The tokens of a source text: what is spelled at each place, by the longest spelling, or the first
+// refusal.
+//
+// It stands on `qq_base` for places and refusals, and on `unicode` for the general categories of the
+// characters of names. The layers above use the tokens of a whole text.
+#![tactic(auto)]
+
+mod gaps;
+mod lexer;
+mod numbers;
+mod pieces;
+mod scan;
+mod tables;
+#[cfg(test)]
+mod tests;
+mod token;
+
+pub use lexer::{MOST_BYTES, lex, next_token};
+pub use token::{Keyword, Mark, Token, TokenKind};
