@@ -16,3 +16,7 @@ pub mod Closing
 pub mod Places
 pub mod NextStep
 pub mod LexRun
+pub mod Apart
+pub mod KindLaws
+pub mod OneReading
+pub mod OneRun

@@ -148,13 +148,13 @@ quote_cases c h = grind (arith, nat_tests)
 pub quote_start : (c : ℕ) → is_quote c ≡ true → start_of c ≡ AtQuote
 quote_start c h = ⊎_elim (λ (e : c ≡ 34). ap start_of e) (λ (e : c ≡ 39). ap start_of e) (quote_cases c h)
 
-point_start : (c : ℕ) → c ≡ 46 → start_of c ≡ AtPoint
+pub point_start : (c : ℕ) → c ≡ 46 → start_of c ≡ AtPoint
 point_start c e = ap start_of e
 
-dollar_start : (c : ℕ) → c ≡ 36 → start_of c ≡ AtDollar
+pub dollar_start : (c : ℕ) → c ≡ 36 → start_of c ≡ AtDollar
 dollar_start c e = ap start_of e
 
-mark_first : (m : Mark) → (c : ℕ) × (cs : List ℕ) × (mark_spelling m ≡ c ∷ cs) × (start_of c ≡ AtMark)
+pub mark_first : (m : Mark) → (c : ℕ) × (cs : List ℕ) × (mark_spelling m ≡ c ∷ cs) × (start_of c ≡ AtMark)
 mark_first Semicolon = (59, [], refl, refl)
 mark_first Comma = (44, [], refl, refl)
 mark_first LeftParen = (40, [], refl, refl)
@@ -209,7 +209,7 @@ some_digits c cs (d ∷ ds) es e digits = ap (is_digit_in 10) (cons_head e) ∙ 
 zero_first : (c : ℕ) (cs mark letter digits : List ℕ) → c ∷ cs ≡ mark ++ digits → mark ≡ 48 ∷ letter → is_digit_in 10 c ≡ true
 zero_first c cs mark letter digits e q = ap (is_digit_in 10) (cons_head (e ∙ ap (λ m. m ++ digits) q))
 
-whole_first : (c : ℕ) (cs mark digits : List ℕ) (base : Base) → c ∷ cs ≡ mark ++ digits → IsPrefix base mark → is_numeral (radix base) digits ≡ true → is_digit_in 10 c ≡ true
+pub whole_first : (c : ℕ) (cs mark digits : List ℕ) (base : Base) → c ∷ cs ≡ mark ++ digits → IsPrefix base mark → is_numeral (radix base) digits ≡ true → is_digit_in 10 c ≡ true
 whole_first c cs mark digits Binary e p n = ⊎_elim (λ (q : mark ≡ 48 ∷ 98 ∷ []). zero_first c cs mark (98 ∷ []) digits e q) (λ (q : mark ≡ 48 ∷ 66 ∷ []). zero_first c cs mark (66 ∷ []) digits e q) p
 whole_first c cs mark digits Octal e p n = zero_first c cs mark (111 ∷ []) digits e p
 whole_first c cs mark digits Hexadecimal e p n = ⊎_elim (λ (q : mark ≡ 48 ∷ 120 ∷ []). zero_first c cs mark (120 ∷ []) digits e q) (λ (q : mark ≡ 48 ∷ 88 ∷ []). zero_first c cs mark (88 ∷ []) digits e q) p
@@ -232,7 +232,7 @@ may_decimal c cs d =
     (λ (h : is_digit_in 10 c ≡ true). subst (λ s. MaySpell s (c ∷ cs)) (sym (digit_start c h)) (inr (inr d)))
     (decimal_start c cs d)
 
-version_first : (c : ℕ) (cs : List ℕ) (major : ℕ) (minor : Option ℕ) → IsVersion (c ∷ cs) major minor → is_digit_in 10 c ≡ true
+pub version_first : (c : ℕ) (cs : List ℕ) (major : ℕ) (minor : Option ℕ) → IsVersion (c ∷ cs) major minor → is_digit_in 10 c ≡ true
 version_first c cs major None v = and_first (is_digit_in 10 c) _ v.0.each
 version_first c cs major (Some minor) v = some_digits c cs v.0 _ v.2 v.3
 

@@ -69,7 +69,7 @@ names_letter kind letter p = by_parts (prefix_parts kind (48 ∷ letter ∷ []) 
 eqb_is : (a b : ℕ) → (a == b) ≡ true → a ≡ b
 eqb_is a b h = (Decides-eqb a b).0 h
 
-not_in_numeral : (letter : ℕ) → NamesBase letter → in_numeral letter ≡ false
+pub not_in_numeral : (letter : ℕ) → NamesBase letter → in_numeral letter ≡ false
 not_in_numeral letter names = ap (λ b. b || (letter == 95)) names.no_digit ∙ no_mark (either (letter == 95))
   where
     no_mark : ((letter == 95) ≡ true) ⊎ ((letter == 95) ≡ false) → (letter == 95) ≡ false

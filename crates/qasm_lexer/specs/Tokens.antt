@@ -39,7 +39,7 @@ rest_from text n = chars (drop n text)
 abbrev pub spelling_of : List ℕ → Token → List ℕ
 spelling_of text token = chars (take (token.end - token.start) (drop token.start text))
 
--- no characters, or the first one passes
+-- there is a first character, and it passes
 abbrev pub BeginsWith : (ℕ → Bool) → List ℕ → Type 0
 BeginsWith passes [] = ⊥
 BeginsWith passes (c ∷ cs) = IsTrue (passes c)
@@ -134,3 +134,9 @@ abbrev pub Gives : List ℕ → Result (Vec Token Global) Fault → Type 0
 Gives bytes (Ok tokens) = Tokens bytes (Ok tokens.items)
 Gives bytes (Err (Refused refusal)) = Tokens bytes (Err refusal)
 Gives bytes (Err Memory) = Unit {0}
+
+-- the answer of the lexer is this reading, want of memory aside
+abbrev pub IsAnswer : Result (List Token) Refusal → Result (Vec Token Global) Fault → Type 0
+IsAnswer reading (Ok tokens) = reading ≡ Ok tokens.items
+IsAnswer reading (Err (Refused refusal)) = reading ≡ Err refusal
+IsAnswer reading (Err Memory) = Unit {0}

@@ -1,8 +1,10 @@
 //! The next token of a text, and all of them.
 
-ghost use Rattle.std.specs.Prelude.{◌≡◌, ◌+◌, ◌^◌, ◌<◌, ◌≤◌, length, take};
+ghost use Rattle.std.specs.Prelude.{◌≡◌, ◌+◌, ◌^◌, ◌<◌, ◌≤◌, List, Result, length, take};
 ghost use Rattle.std.specs.Str.{chars, IsCharBoundary, IsUtf8};
-ghost use Rattle.qasm_lexer.specs.Tokens.{place_behind, place_of, opens_version, IsNext, Gives};
+ghost use Rattle.qq_base.specs.declared.refusal.Refusal.{Refusal};
+ghost use Rattle.qasm_lexer.specs.declared.token.Token.{Token};
+ghost use Rattle.qasm_lexer.specs.Tokens.{place_behind, place_of, opens_version, IsNext, Tokens, Gives, IsAnswer};
 
 use crate::gaps::skip_gaps;
 use crate::pieces::first_token;
@@ -97,6 +99,16 @@ fn place_behind_bytes(bytes: &[u8], count: usize) -> Span
 
 /// All tokens of a source text, or its first refusal.
 pub fn lex(alloc: Global, text: &[u8]) -> Result<Vec<Token>, Fault>
+    requires { length text.now ≤ MOST_BYTES }
+    ensures found { Gives text.now result }
+    // There is no other reading.
+    ensures only { (reading : Result (List Token) Refusal) → Tokens text.now reading → IsAnswer reading result }
+{
+    read(alloc, text)
+}
+
+/// Reads token by token.
+fn read(alloc: Global, text: &[u8]) -> Result<Vec<Token>, Fault>
     requires { length text.now ≤ MOST_BYTES }
     ensures found { Gives text.now result }
 {

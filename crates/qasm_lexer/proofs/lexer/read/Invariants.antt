@@ -1,6 +1,6 @@
 use Rattle.std.proofs.Common.{◌-◌, length}
 use Rattle.qasm_lexer.proofs.LexRun.{SoFar}
-use Rattle.qasm_lexer.proofs.lexer.lex.Given as goal
+use Rattle.qasm_lexer.proofs.lexer.read.Given as goal
 
 -- the tokens so far are those in front of what is left
 abbrev pub invariant-loop-token : goal.invariant-loop-token
