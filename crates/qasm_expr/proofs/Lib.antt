@@ -1,0 +1,4 @@
+pub mod Tokens
+pub mod Exprs
+pub mod Levels
+pub mod Worked

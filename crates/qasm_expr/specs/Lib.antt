@@ -1,0 +1,4 @@
+pub mod TokenKinds
+pub mod Grammar
+pub mod Reader
+pub mod Rows
