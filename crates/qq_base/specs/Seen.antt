@@ -3,7 +3,8 @@ use Rattle.std.specs.Prelude.{ℕ, zero, suc, Bool, List, [], ◌∷◌}
 use Rattle.qq_base.specs.declared.run.Event.{Event}
 use Rattle.qq_base.specs.declared.run.Record.{Record}
 
--- How far a run came. Stuck is for runs of a module alone: a module that passes the checker never is.
+-- How far a run came. Stuck is for runs of a module alone, where it reads what was not assigned or jumps to
+-- no block.
 pub data Ending : Type 0 where
   Ended : Ending
   Asked : Ending

@@ -41,7 +41,7 @@ pub enum Rule {
     WrongKind,
     /// A width is out of the range of its type.
     WidthRange,
-    /// The operator has no meaning at these types.
+    /// An operator, a loop's type, a gate's argument, a measurement's target or a call has the wrong type.
     TypeMismatch,
     /// The cast table has no row.
     NoCast,
@@ -51,7 +51,7 @@ pub enum Rule {
     ConstRange,
     /// A constant divisor is 0, or a remainder is left where none may be.
     ConstDivide,
-    /// An angle is no multiple of pi.
+    /// A constant angle is a whole number other than 0, or pi stands under an operator that does not take it.
     NotPiMultiple,
     /// An angle is no whole number of its units.
     NotDyadic,
@@ -85,7 +85,7 @@ pub enum Rule {
     AssignConst,
     /// The divisor of a run-time division is no constant from 1 to 2^63 - 1.
     DivisorRange,
-    /// A shift's amount is no constant from 0 below the width.
+    /// A run-time shift's amount is no constant from 0 below the width, or a constant one is negative.
     ShiftRange,
     /// A call stands where none may.
     CallPlace,

@@ -49,7 +49,7 @@ pub enum Step {
     Record(Record),
     /// A measurement is next, and no outcome was given.
     Ask,
-    /// A loop begins another turn.
+    /// A loop's body has ended or continued, and a turn is spent.
     Turn,
     /// The run has ended.
     Done,
