@@ -27,17 +27,17 @@ use Rattle.qir_module.specs.Machine.{first_state, run_from, machine_run}
 use Rattle.qir_module.specs.Items.{items_of}
 
 -- the lines of a text
-abbrev text_of : List String → List ℕ
+abbrev pub text_of : List String → List ℕ
 text_of [] = []
 text_of (l ∷ ls) = line (codes l) ++ text_of ls
 
-abbrev function : ℕ → Function
+abbrev pub function : ℕ → Function
 function n = record { 0 = n }
 
-abbrev call : ℕ → List Arg → Instr
+abbrev pub call : ℕ → List Arg → Instr
 call n args = Call None (function n) args
 
-abbrev read : ℕ → ℕ → Instr
+abbrev pub read : ℕ → ℕ → Instr
 read r k = Call (Some r) (function 1) (Id k ∷ [])
 
 abbrev one_block : List (List ℕ) → List Instr → List ℕ → ℕ → ℕ → Module
