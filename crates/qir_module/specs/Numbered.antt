@@ -1,5 +1,6 @@
 -- The order of the numbers in a module, as the compiler writes them.
 use Rattle.std.specs.Prelude.{ℕ, zero, suc, ◌≡◌, nat_eq, Bool, List, [], ◌∷◌, ◌++◌, length, map, Option, Some, None}
+use Rattle.std.specs.Option.{option_to_list}
 use Rattle.std.specs.List.{flat_map, filter, list_any, AllByRecursion}
 use Rattle.qir_module.specs.declared.instruction.Arg.{Arg}
 use Rattle.qir_module.specs.declared.instruction.Arg.TheVariants.{Id}
@@ -16,16 +17,12 @@ abbrev pub CountsFrom : ℕ → List ℕ → Type 0
 CountsFrom k [] = Unit {0}
 CountsFrom k (n ∷ ns) = (n ≡ k) × CountsFrom (suc k) ns
 
--- the numbers below n, in order
+-- n numbers from k on, in order
 abbrev pub counted : ℕ → ℕ → List ℕ
 counted k zero = []
 counted k (suc n) = k ∷ counted (suc k) n
 
 -- ---- what a module assigns, calls and measures, in the order of its text
-
-abbrev pub option_to_list : {A : Type 0} → Option A → List A
-option_to_list None = []
-option_to_list (Some x) = x ∷ []
 
 abbrev pub registers_of : Instr → List ℕ
 registers_of (Op r op truth left right) = r ∷ []
