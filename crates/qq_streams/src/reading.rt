@@ -25,7 +25,7 @@ const PIECE: usize = 4096;
 /// Reads all that is left, of at most `limit` bytes. `TooLong` comes exactly where more than `limit` bytes
 /// came, as soon as they did; `ReadFault` only where the source's count of faults rose in this call;
 /// `Memory` for want of memory. After each of the three some bytes from the front of what was left are
-/// gone, after `ReadFault` at most `limit`, and after `TooLong` more, by less than a piece.
+/// gone, after `ReadFault` at most `limit`, and after `TooLong` more, by at most a piece.
 pub fn read_all<S: Source>(
     alloc: Global,
     source: &mut S,

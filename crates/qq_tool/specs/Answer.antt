@@ -68,7 +68,7 @@ abbrev pub IsInput : Option Command → Option (List ℕ) → List ℕ → Type 
 IsInput None left bytes = Unit {0}
 IsInput (Some Compile) left bytes = left ≡ Some bytes
 
--- the greatest number of bytes that the input of a command may have
+-- the input has no more bytes than the command takes
 abbrev pub IsShort : Option Command → List ℕ → Type 0
 IsShort None bytes = Unit {0}
 IsShort (Some Compile) bytes = length bytes ≤ source_limit
