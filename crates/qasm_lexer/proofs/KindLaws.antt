@@ -43,7 +43,7 @@ kind_start version c cs (MarkKind m) s = let first = mark_first m in ap start_of
 -- the value of a whole number
 based_letter : (cs digits : List ℕ) (letter : ℕ) → cs ≡ 48 ∷ letter ∷ digits → NamesBase letter → is_numeral 10 cs ≡ true → ⊥
 based_letter cs digits letter e names n =
-    false≢true (sym (not_in_numeral letter names) ∙ and_first (in_numeral letter) _ (and_second (in_numeral 48) _ (ap (list_all in_numeral) (sym e) ∙ numeral_class cs n)))
+    false≢true (sym (not_in_numeral letter names) ∙ and_first (in_numeral 10 letter) _ (and_second (in_numeral 10 48) _ (ap (list_all (in_numeral 10)) (sym e) ∙ numeral_class 10 cs n)))
 
 whole_same : (cs : List ℕ) (m n : ℕ) → IsWhole cs m → IsWhole cs n → m ≡ n
 whole_same cs m n a b = by_parts (prefix_parts a.base a.mark a.marked) (prefix_parts b.base b.mark b.marked)

@@ -20,3 +20,4 @@ pub mod Apart
 pub mod KindLaws
 pub mod OneReading
 pub mod OneRun
+pub mod Sizes

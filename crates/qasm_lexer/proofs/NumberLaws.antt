@@ -16,31 +16,31 @@ pub record DigitsThen (cs digits rest : List ℕ) : Type 0 where
   pub each : IsTrue (list_all (is_digit_in 10) digits)
   pub stops : StopsAt (is_digit_in 10) rest
 
--- the characters of a decimal numeral
-abbrev pub in_numeral : ℕ → Bool
-in_numeral c = is_digit_in 10 c || (c == 95)
+-- the characters of a numeral
+abbrev pub in_numeral : ℕ → ℕ → Bool
+in_numeral base c = is_digit_in base c || (c == 95)
 
-numeral_digit : (c : ℕ) → is_digit_in 10 c ≡ true → in_numeral c ≡ true
-numeral_digit c h = ap (λ b. b || (c == 95)) h
+numeral_digit : (base c : ℕ) → is_digit_in base c ≡ true → in_numeral base c ≡ true
+numeral_digit base c h = ap (λ b. b || (c == 95)) h
 
-numeral_mark : (c : ℕ) → (c == 95) ≡ true → in_numeral c ≡ true
-numeral_mark c h = ⊎_elim (λ (d : is_digit_in 10 c ≡ true). numeral_digit c d) (λ (d : is_digit_in 10 c ≡ false). ap (λ b. b || (c == 95)) d ∙ h) (either (is_digit_in 10 c))
+numeral_mark : (base c : ℕ) → (c == 95) ≡ true → in_numeral base c ≡ true
+numeral_mark base c h = ⊎_elim (λ (d : is_digit_in base c ≡ true). numeral_digit base c d) (λ (d : is_digit_in base c ≡ false). ap (λ b. b || (c == 95)) d ∙ h) (either (is_digit_in base c))
 
-goes_on_class : (cs : List ℕ) → goes_on 10 cs ≡ true → list_all in_numeral cs ≡ true
-goes_on_class [] h = refl
-goes_on_class (c ∷ []) h = and_true (numeral_digit c h) refl
-goes_on_class (c ∷ d ∷ cs) h =
+goes_on_class : (base : ℕ) (cs : List ℕ) → goes_on base cs ≡ true → list_all (in_numeral base) cs ≡ true
+goes_on_class base [] h = refl
+goes_on_class base (c ∷ []) h = and_true (numeral_digit base c h) refl
+goes_on_class base (c ∷ d ∷ cs) h =
     ⊎_elim
-    (λ (digit : is_digit_in 10 c ≡ true). and_true (numeral_digit c digit) (goes_on_class (d ∷ cs) (sym (goes_digit 10 c d cs digit) ∙ h)))
-    (λ (mark : is_digit_in 10 c ≡ false).
-    let parts = sym (goes_mark 10 c d cs mark) ∙ h in
-    let two = and_first ((c == 95) && is_digit_in 10 d) (goes_on 10 cs) parts in
-    and_true (numeral_mark c (and_first (c == 95) _ two)) (and_true (numeral_digit d (and_second (c == 95) _ two)) (goes_on_class cs (and_second _ (goes_on 10 cs) parts))))
-    (either (is_digit_in 10 c))
+    (λ (digit : is_digit_in base c ≡ true). and_true (numeral_digit base c digit) (goes_on_class base (d ∷ cs) (sym (goes_digit base c d cs digit) ∙ h)))
+    (λ (mark : is_digit_in base c ≡ false).
+    let parts = sym (goes_mark base c d cs mark) ∙ h in
+    let two = and_first ((c == 95) && is_digit_in base d) (goes_on base cs) parts in
+    and_true (numeral_mark base c (and_first (c == 95) _ two)) (and_true (numeral_digit base d (and_second (c == 95) _ two)) (goes_on_class base cs (and_second _ (goes_on base cs) parts))))
+    (either (is_digit_in base c))
 
-pub numeral_class : (cs : List ℕ) → is_numeral 10 cs ≡ true → list_all in_numeral cs ≡ true
-numeral_class [] h = absurd (false≢true h)
-numeral_class (c ∷ cs) h = and_true (numeral_digit c (and_first (is_digit_in 10 c) _ h)) (goes_on_class cs (and_second (is_digit_in 10 c) _ h))
+pub numeral_class : (base : ℕ) (cs : List ℕ) → is_numeral base cs ≡ true → list_all (in_numeral base) cs ≡ true
+numeral_class base [] h = absurd (false≢true h)
+numeral_class base (c ∷ cs) h = and_true (numeral_digit base c (and_first (is_digit_in base c) _ h)) (goes_on_class base cs (and_second (is_digit_in base c) _ h))
 
 -- the letter that names a base is no digit, no point, no `_` and no exponent's
 pub record NamesBase (letter : ℕ) : Type 0 where
@@ -86,15 +86,15 @@ no_based (d ∷ f ∷ ds) rest z x letter each h k differ e =
 -- a character that ends a numeral, and names no base
 pub record EndsNumeral (x : ℕ) : Type 0 where
   pub no_digit : is_digit_in 10 x ≡ false
-  pub no_numeral : in_numeral x ≡ false
+  pub no_numeral : in_numeral 10 x ≡ false
   pub no_base : (letter : ℕ) → NamesBase letter → x ≡ letter → ⊥
 
 pub point_ends : EndsNumeral 46
 point_ends = record { no_digit = refl; no_numeral = refl; no_base = λ letter names e. names.no_point (sym e) }
 
 pub exponent_ends : (c : ℕ) → (c ≡ 101) ⊎ (c ≡ 69) → EndsNumeral c
-exponent_ends c (inl e) = record { no_digit = ap (is_digit_in 10) e; no_numeral = ap in_numeral e; no_base = λ letter names same. names.no_exponent (inl (sym same ∙ e)) }
-exponent_ends c (inr e) = record { no_digit = ap (is_digit_in 10) e; no_numeral = ap in_numeral e; no_base = λ letter names same. names.no_exponent (inr (sym same ∙ e)) }
+exponent_ends c (inl e) = record { no_digit = ap (is_digit_in 10) e; no_numeral = ap (in_numeral 10) e; no_base = λ letter names same. names.no_exponent (inl (sym same ∙ e)) }
+exponent_ends c (inr e) = record { no_digit = ap (is_digit_in 10) e; no_numeral = ap (in_numeral 10) e; no_base = λ letter names same. names.no_exponent (inr (sym same ∙ e)) }
 
 -- a whole number ends where such a character does
 pub whole_short : (cs digits rest other more : List ℕ) (x value : ℕ) → cs ≡ digits ++ x ∷ rest → IsTrue (list_all (is_digit_in 10) digits) → EndsNumeral x → IsWhole other value → cs ≡ other ++ more → length other ≤ length digits
@@ -104,7 +104,7 @@ whole_short cs digits rest other more x value split each ends w at = by_prefix (
     by_prefix (inl p) =
         let same : other ≡ w.digits = w.split ∙ ap (λ m. m ++ w.digits) p.1 in
         let numeral : is_numeral 10 w.digits ≡ true = subst (λ b. is_numeral (radix b) w.digits ≡ true) p.0 w.numeral in
-        run_longest in_numeral digits (x ∷ rest) other more (sym split ∙ at) ends.no_numeral (ap (list_all in_numeral) same ∙ numeral_class w.digits numeral)
+        run_longest (in_numeral 10) digits (x ∷ rest) other more (sym split ∙ at) ends.no_numeral (ap (list_all (in_numeral 10)) same ∙ numeral_class 10 w.digits numeral)
     by_prefix (inr p) =
         absurd (no_based digits rest (w.digits ++ more) x p.0 each ends.no_digit p.2.no_digit (ends.no_base p.0 p.2) (sym split ∙ at ∙ ap (λ y. y ++ more) (w.split ∙ ap (λ m. m ++ w.digits) p.1)))
 

@@ -69,7 +69,7 @@ names_letter kind letter p = by_parts (prefix_parts kind (48 ∷ letter ∷ []) 
 eqb_is : (a b : ℕ) → (a == b) ≡ true → a ≡ b
 eqb_is a b h = (Decides-eqb a b).0 h
 
-pub not_in_numeral : (letter : ℕ) → NamesBase letter → in_numeral letter ≡ false
+pub not_in_numeral : (letter : ℕ) → NamesBase letter → in_numeral 10 letter ≡ false
 not_in_numeral letter names = ap (λ b. b || (letter == 95)) names.no_digit ∙ no_mark (either (letter == 95))
   where
     no_mark : ((letter == 95) ≡ true) ⊎ ((letter == 95) ≡ false) → (letter == 95) ≡ false
@@ -112,7 +112,7 @@ module _ {cs digits rest front after : List ℕ} {letter base digit : ℕ} (whol
       by_parts (inl p) =
           let same : other ≡ w.digits = w.split ∙ ap (λ m. m ++ w.digits) p.1 in
           let numeral : is_numeral 10 w.digits ≡ true = subst (λ b. is_numeral (radix b) w.digits ≡ true) p.0 w.numeral in
-          short_one in_numeral other more e (not_in_numeral letter names) (ap (list_all in_numeral) same ∙ numeral_class w.digits numeral)
+          short_one (in_numeral 10) other more e (not_in_numeral letter names) (ap (list_all (in_numeral 10)) same ∙ numeral_class 10 w.digits numeral)
       by_parts (inr p) =
           based_same other more w.digits p.0 w.base e (subst (IsPrefix w.base) p.1 w.marked) (w.split ∙ ap (λ m. m ++ w.digits) p.1) w.numeral
 
@@ -216,4 +216,4 @@ module _ {cs digits rest front after : List ℕ} {digit : ℕ} (whole : WholeAt 
   pub numeral_no_version : (version : Bool) → (IsTrue version → AreDigits (digit ∷ front) → ⊥) → IsNoVersion version (digit ∷ front)
   numeral_no_version version why is major None v = why is v.0
   numeral_no_version version why is major (Some minor) v =
-      absurd (false≢true (list_all_at in_numeral v.0 46 v.1 (ap (list_all in_numeral) (sym v.2) ∙ numeral_class (digit ∷ front) (and_true at.begins at.each))))
+      absurd (false≢true (list_all_at (in_numeral 10) v.0 46 v.1 (ap (list_all (in_numeral 10)) (sym v.2) ∙ numeral_class 10 (digit ∷ front) (and_true at.begins at.each))))

@@ -3,3 +3,4 @@ pub mod Tables
 pub mod Spelling
 pub mod Tokens
 pub mod Scan
+pub mod Sizes

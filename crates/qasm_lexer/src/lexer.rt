@@ -97,6 +97,15 @@ fn place_behind_bytes(bytes: &[u8], count: usize) -> Span
     }
 }
 
+/// The place of the end of a text: behind all its characters, blanks and comments included.
+pub fn end_of(text: &[u8]) -> Span
+    requires few { length text.now ≤ MOST_BYTES }
+    requires utf8 { IsUtf8 text.now }
+    ensures { result ≡ place_of text.now (length text.now) }
+{
+    place_behind_bytes(text, text.len())
+}
+
 /// All tokens of a source text, or its first refusal.
 pub fn lex(alloc: Global, text: &[u8]) -> Result<Vec<Token>, Fault>
     requires { length text.now ≤ MOST_BYTES }

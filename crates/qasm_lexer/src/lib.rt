@@ -6,6 +6,7 @@
 #![tactic(auto)]
 
 mod gaps;
+mod laws;
 mod lexer;
 mod numbers;
 mod pieces;
@@ -15,5 +16,6 @@ mod tables;
 mod tests;
 mod token;
 
-pub use lexer::{MOST_BYTES, lex, next_token};
+pub use laws::tokens_are_bounded;
+pub use lexer::{MOST_BYTES, end_of, lex, next_token};
 pub use token::{Keyword, Mark, Token, TokenKind};

@@ -1,6 +1,6 @@
 //! Texts with their tokens, worked out by hand from the table of spellings.
 
-use crate::lex;
+use crate::{end_of, lex};
 use qq_base::Fault;
 use std::alloc::{AllocError, Global};
 use std::test::Fail;
@@ -150,6 +150,31 @@ fn refuses_at_its_place(rt: HostRuntime) -> Result<(), Fail> {
     ];
     for (text, want) in table {
         assert_eq!(rt; shown(rt.alloc(), text)?.as_str(), want);
+    }
+    Ok(())
+}
+
+/// The place of the end of a text.
+fn shown_end(alloc: Global, text: &str) -> Result<String, AllocError> {
+    if text.len() > crate::MOST_BYTES {
+        return Ok(String::new(alloc));
+    }
+    let end = end_of(text.as_bytes());
+    let line = end.line;
+    let column = end.column;
+    format!(in alloc; "{line}:{column}")
+}
+
+#[test]
+fn ends_behind_all_characters(rt: HostRuntime) -> Result<(), Fail> {
+    let table = [
+        ("", "1:1"),
+        ("x = π;\nπ\r", "2:3"),
+        ("x // é", "1:7"),
+        ("x /* é\n*/\n", "3:1"),
+    ];
+    for (text, want) in table {
+        assert_eq!(rt; shown_end(rt.alloc(), text)?.as_str(), want);
     }
     Ok(())
 }
