@@ -27,14 +27,14 @@ get-append (x ∷ xs) ys zero lt = refl
 get-append (x ∷ xs) ys (suc k) lt = get-append xs ys k (omega arith)
 
 module _ (names more : List (List ℕ)) (sub sub' : ℕ → Tree) (n : ℕ) (same : (k : ℕ) → k < n → sub' k ≡ sub k) where
-  ids_same : (ids : List ExprId) → All (IsExpr n) ids → trees_at sub' ids ≡ trees_at sub ids
+  pub ids_same : (ids : List ExprId) → All (IsExpr n) ids → trees_at sub' ids ≡ trees_at sub ids
   ids_same [] a = refl
   ids_same (id ∷ ids) a =
       let here : sub' id.0 ≡ sub id.0 = same id.0 (All-head (IsExpr n) id ids a) in
       let later : trees_at sub' ids ≡ trees_at sub ids = ids_same ids (All-tail (IsExpr n) id ids a) in
       cc
 
-  some_same : (o : Option ExprId) → IfThere (IsExpr n) o → maybe_at sub' o ≡ maybe_at sub o
+  pub some_same : (o : Option ExprId) → IfThere (IsExpr n) o → maybe_at sub' o ≡ maybe_at sub o
   some_same None f = refl
   some_same (Some id) f = let here : sub' id.0 ≡ sub id.0 = same id.0 f in cc
 
@@ -43,14 +43,14 @@ module _ (names more : List (List ℕ)) (sub sub' : ℕ → Tree) (n : ℕ) (sam
   index_same (i.Range start step stop place) f = rw (some_same start f.0, some_same step f.1, some_same stop f.2) refl
   index_same (i.Set ids) f = rw (ids_same ids f.each) refl
 
-  indexes_same : (js : List IndexRef) → All (IndexFits n) js → brackets_at sub' js ≡ brackets_at sub js
+  pub indexes_same : (js : List IndexRef) → All (IndexFits n) js → brackets_at sub' js ≡ brackets_at sub js
   indexes_same [] a = refl
   indexes_same (j ∷ js) a =
       let here : bracket_at sub' j ≡ bracket_at sub j = index_same j (All-head (IndexFits n) j js a) in
       let later : brackets_at sub' js ≡ brackets_at sub js = indexes_same js (All-tail (IndexFits n) j js a) in
       cc
 
-  called_same : (o : OperandName) → NameFits (length names) o → called_at (names ++ more) o ≡ called_at names o
+  pub called_same : (o : OperandName) → NameFits (length names) o → called_at (names ++ more) o ≡ called_at names o
   called_same (o.Name k) f = rw (text-append names more k f) refl
   called_same (o.Hardware k) f = refl
 
