@@ -12,7 +12,7 @@ use Rattle.grammar_parts.proofs.Sets.{tells_marked, tells_picked, has_back, has_
 use Rattle.grammar_parts.proofs.Productions.{Reads, May, reads_one, reads_mark, reads_then, reads_more, may_then, reads_map, may_map, reads_either, may_either, may_left_out, reads_sets, reads_wider, may_sets, may_many, may_repeated, Opens, reads_free, reads_open_free, may_list, reads_list}
 use Rattle.qasm_expr.specs.TokenKinds.{mark_kind, kind}
 use Rattle.qasm_expr.specs.Grammar.{Rows, operators, unary_operators, plain_types, sized_types, Counted, join, scalar, comma, width, type, grouped, cast, arguments, stop, behind_colon, behind_start, set, content, index, behind_name, prim, power, unary_at, link, level, binary, expr_of}
-use Rattle.qasm_expr.specs.Reader.{type_kinds, prim_kinds, expr_kinds, content_kinds, read_width, read_type, read_grouped, read_cast, read_arguments, read_stop, read_behind_colon, read_behind_start, read_set, read_content, read_index, read_behind_name, read_prim, read_power, read_unary_at, read_link, read_level, read_binary, read_expr_of}
+use Rattle.qasm_expr.specs.Reader.{type_kinds, prim_kinds, expr_kinds, content_kinds, read_between, read_list, read_width, read_grouped, read_type, read_cast, read_arguments, read_stop, read_behind_colon, read_behind_start, read_set, read_content, read_index, read_behind_name, read_prim, read_power, read_unary_at, read_link, read_level, read_binary, read_expr_of}
 use Rattle.qasm_expr.proofs.Tokens.{tells_literal, tells_name}
 
 -- what may go on behind a whole name, a whole operand of a level, a whole expression
@@ -42,31 +42,31 @@ colon_more = mark_kind m.Colon ∷ (expr_kinds ++ expr_more)
 
 module _ (text : List ℕ) {C : Type 0} where
   module _ {p q : Part Token Tree} {r : Reader Token Tree} (i : Reads (kind text) C p q r expr_kinds expr_more) {room wide : ℕ} (opens : Opens (kind text) C room wide) where
-    reads_width : Reads (kind text) C (width text room p) (width text wide q) (read_width text room r) (mark_kind m.LeftBracket ∷ []) []
-    unfolding read_width
+    pub reads_width : Reads (kind text) C (width text room p) (width text wide q) (read_width text room r) (mark_kind m.LeftBracket ∷ []) []
+    unfolding read_between
     reads_width = reads_then (kind text) (opens.reads (tells_marked (kind text) (mark_kind m.LeftBracket))) (λ o. reads_then (kind text) i (λ e. reads_map (kind text) (λ c. e) (reads_mark (kind text) (mark_kind m.RightBracket))) refl) refl
 
-    reads_type : Reads (kind text) C (type text room p) (type text wide q) (read_type text room r) type_kinds (mark_kind m.LeftBracket ∷ [])
+    pub reads_type : Reads (kind text) C (type text room p) (type text wide q) (read_type text room r) type_kinds (mark_kind m.LeftBracket ∷ [])
     unfolding read_type
     reads_type = reads_either (kind text)
         (reads_map (kind text) (λ w. scalar w.0 absent w.1.at) (reads_one (kind text) (tells_picked (kind text) plain_types)))
         (reads_more (kind text) (reads_one (kind text) (tells_picked (kind text) sized_types)) (λ w. may_left_out (kind text) (scalar w.0 absent w.1.at) (reads_map (kind text) (λ e. scalar w.0 (present e) w.1.at) reads_width) refl) refl) refl
 
-    reads_grouped : Reads (kind text) C (grouped text room p) (grouped text wide q) (read_grouped text room r) (mark_kind m.LeftParen ∷ []) []
-    unfolding read_grouped
+    pub reads_grouped : Reads (kind text) C (grouped text room p) (grouped text wide q) (read_grouped text room r) (mark_kind m.LeftParen ∷ []) []
+    unfolding read_between
     reads_grouped = reads_then (kind text) (opens.reads (tells_marked (kind text) (mark_kind m.LeftParen))) (λ o. reads_then (kind text) i (λ e. reads_map (kind text) (λ c. e) (reads_mark (kind text) (mark_kind m.RightParen))) refl) refl
 
     reads_cast : Reads (kind text) C (cast text room p) (cast text wide q) (read_cast text room r) type_kinds []
     unfolding read_cast
     reads_cast = reads_then (kind text) reads_type (λ s. reads_map (kind text) (λ e. cast_tree s.base s.width s.place e s.place) reads_grouped) refl
 
-    reads_arguments : Reads (kind text) C (arguments text room p) (arguments text wide q) (read_arguments text room r) (mark_kind m.LeftParen ∷ []) []
-    unfolding read_arguments
+    pub reads_arguments : Reads (kind text) C (arguments text room p) (arguments text wide q) (read_arguments text room r) (mark_kind m.LeftParen ∷ []) []
+    unfolding read_between read_list
     reads_arguments = reads_then (kind text) (opens.reads (tells_marked (kind text) (mark_kind m.LeftParen)))
         (λ o. may_then (kind text) (may_list (kind text) comma i refl) (λ es. reads_map (kind text) (λ c. es) (reads_mark (kind text) (mark_kind m.RightParen))) refl) refl
 
     reads_set : Reads (kind text) C (set text room p) (set text wide q) (read_set text room r) (mark_kind m.LeftBrace ∷ []) []
-    unfolding read_set
+    unfolding read_set read_list
     reads_set = reads_then (kind text) (opens.reads (tells_marked (kind text) (mark_kind m.LeftBrace)))
         (λ o. reads_then (kind text) (reads_list (kind text) comma i refl) (λ es. reads_map (kind text) (λ c. members (trees es)) (reads_mark (kind text) (mark_kind m.RightBrace))) refl) refl
 
@@ -99,8 +99,8 @@ module _ (text : List ℕ) {C : Type 0} where
   -- ---- operands
 
   module _ {p q : Part Token Tree} {r : Reader Token Tree} (i : Reads (kind text) C p q r expr_kinds expr_more) {pc qc : Part Token Bracket} {rc : Reader Token Bracket} (inside : Reads (kind text) C pc qc rc content_kinds colon_more) {room wide : ℕ} (opens : Opens (kind text) C room wide) where
-    reads_index : Reads (kind text) C (index text room pc) (index text wide qc) (read_index text room rc) (mark_kind m.LeftBracket ∷ []) []
-    unfolding read_index
+    pub reads_index : Reads (kind text) C (index text room pc) (index text wide qc) (read_index text room rc) (mark_kind m.LeftBracket ∷ []) []
+    unfolding read_between
     reads_index = reads_then (kind text) (opens.reads (tells_marked (kind text) (mark_kind m.LeftBracket))) (λ o. reads_then (kind text) inside (λ j. reads_map (kind text) (λ c. j) (reads_mark (kind text) (mark_kind m.RightBracket))) refl) refl
 
     may_behind_name : (x : List ℕ × Span) → May (kind text) C (behind_name text room p pc x) (behind_name text wide q qc x) (read_behind_name text room r rc x) name_more name_more

@@ -1,10 +1,10 @@
 -- The expression at each depth is read exactly, against each grammar without limits that has room enough.
-use Rattle.std.proofs.Common.{◌≡◌, inl, inr, ℕ, zero, suc, ◌≤◌, List, [], ◌∷◌, ◌++◌, Option, None, le_refl, arith}
+use Rattle.std.proofs.Common.{◌≡◌, inl, inr, ℕ, zero, suc, ◌≤◌, List, [], ◌∷◌, ◌++◌, Option, None, le_refl, arith, Ok, length, length-append, ap, subst, ◌<◌}
 use Rattle.qasm_lexer.specs.declared.token.Token.{Token}
 use Rattle.qasm_lexer.specs.declared.token.Mark.TheVariants as m
 use Rattle.qasm_ast.specs.Tree.{Tree, Bracket}
 use Rattle.grammar_parts.specs.Part.{Part, never, one}
-use Rattle.grammar_parts.specs.Reading.{Reader, take_never}
+use Rattle.grammar_parts.specs.Reading.{Reader, take_never, Answers}
 use Rattle.grammar_parts.specs.Kinds.{Among, kinds_of}
 use Rattle.grammar_parts.specs.Exact.{Exactly}
 use Rattle.grammar_parts.proofs.Sets.{Tells, tells_marked, tells_picked, has_either}
@@ -89,10 +89,10 @@ module _ (text : List ℕ) where
   shut_unary : (wide used : ℕ) → Reads (kind text) (Unit {0}) never (unary text None (suc wide) used) (take_never (begins text expr_kinds)) expr_kinds unary_more
   shut_unary wide used = reads_never (kind text) (itself (suc wide) used) (begins_unary wide used)
 
-  shut_expr : (wide : ℕ) → Reads (kind text) (Unit {0}) never (expr text None (suc wide)) (take_never (begins text expr_kinds)) expr_kinds expr_more
+  pub shut_expr : (wide : ℕ) → Reads (kind text) (Unit {0}) never (expr text None (suc wide)) (take_never (begins text expr_kinds)) expr_kinds expr_more
   shut_expr wide = reads_never (kind text) (expr_itself (suc wide)) (begins_expr wide)
 
-  shut_content : (wide : ℕ) → Reads (kind text) (Unit {0}) never (content text (suc wide) (expr text None (suc wide)) (expr text None wide)) (take_never (begins text content_kinds)) content_kinds colon_more
+  pub shut_content : (wide : ℕ) → Reads (kind text) (Unit {0}) never (content text (suc wide) (expr text None (suc wide)) (expr text None wide)) (take_never (begins text content_kinds)) content_kinds colon_more
   shut_content wide =
       let h : Reads (kind text) ⊥ (content text (suc wide) (expr text None (suc wide)) (expr text None wide)) (content text (suc wide) (expr text None (suc wide)) (expr text None wide)) (read_content text (suc wide) (read_expr text None (suc wide)) (read_expr text None wide)) content_kinds colon_more = reads_content text (expr_itself (suc wide)) (expr_itself wide) (opens_self (kind text) (suc wide)) in
       reads_never (kind text) h (begins_content wide)
@@ -126,3 +126,17 @@ module _ (text : List ℕ) where
   -- at most one tree is derived
   pub expr_single : (limit : Option ℕ) (room : ℕ) (ts : List Token) (a c : Tree) → (expr text limit room).derives ts a → (expr text limit room).derives ts c → a ≡ c
   expr_single limit room = (reads_expr limit room (suc (suc (suc room))) (le_refl _)).follows.fine.single
+
+  -- An expression takes a token at least.
+  pub expr_moves : (limit : Option ℕ) (room : ℕ) (ts : List Token) (a : Tree) (rest : List Token) → read_expr text limit room ts ≡ Ok (a, rest) → length rest < length ts
+  expr_moves limit room ts a rest h = moves (subst (λ o. Answers (expr text limit room) (expr text None (suc (suc (suc room)))) ts o) h (known.follows.takes tt ts).holds)
+    where
+      known : Reads (kind text) (Unit {0}) (expr text limit room) (expr text None (suc (suc (suc room)))) (read_expr text limit room) expr_kinds expr_more
+      known = reads_expr limit room (suc (suc (suc room))) (le_refl _)
+
+      longer : (xs : List Token) → ts ≡ xs ++ rest → (expr text limit room).derives xs a → length rest < length ts
+      longer [] k d = absurd (known.filled.never_empty a (known.follows.below.derived [] a d))
+      longer (x ∷ xs) k d = omega (arith, ap length k, length-append xs rest)
+
+      moves : Answers (expr text limit room) (expr text None (suc (suc (suc room)))) ts (Ok (a, rest)) → length rest < length ts
+      moves (xs, k, d, stops) = longer xs k d

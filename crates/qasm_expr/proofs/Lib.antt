@@ -1,4 +1,17 @@
 pub mod Tokens
 pub mod Exprs
 pub mod Levels
+pub mod Bits
+pub mod Places
+pub mod Literals
+pub mod Growing
+pub mod Chains
+pub mod Lists
+pub mod Exits
 pub mod Worked
+pub mod Units
+pub mod Trees
+pub mod Told
+pub mod Cuts
+pub mod Fits
+pub mod Operands

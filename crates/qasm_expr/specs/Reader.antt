@@ -1,5 +1,5 @@
 -- The readers of lists that stand for the grammar's parts.
-use Rattle.std.specs.Prelude.{ℕ, zero, suc, ◌+◌, Bool, List, [], ◌∷◌, ◌++◌, Option, length}
+use Rattle.std.specs.Prelude.{ℕ, zero, suc, ◌+◌, Bool, List, [], ◌∷◌, ◌++◌, Option, length, true, false}
 use Rattle.qq_base.specs.declared.refusal.Span.{Span}
 use Rattle.qasm_lexer.specs.declared.token.Token.{Token}
 use Rattle.qasm_lexer.specs.declared.token.Keyword.TheVariants as k
@@ -38,21 +38,30 @@ module _ (text : List ℕ) where
   abbrev pub read_opener : ℕ → ℕ → Reader Token Token
   read_opener room k = take_opening room (marked (kind text) k)
 
-  unfoldable pub read_width : ℕ → Reader Token Tree → Reader Token Tree
-  read_width room inner = read_opener room (mark_kind m.LeftBracket) >>= (λ o. inner >>= (λ e. read_sign (mark_kind m.RightBracket) >>= (λ c. done e)))
+  -- a part between two marks, of which the first opens a level
+  unfoldable pub read_between : {A : Type 0} → ℕ → ℕ → ℕ → Reader Token A → Reader Token A
+  read_between room left right inner = read_opener room left >>= (λ o. inner >>= (λ e. read_sign right >>= (λ c. done e)))
+
+  abbrev pub read_width : ℕ → Reader Token Tree → Reader Token Tree
+  read_width room inner = read_between room (mark_kind m.LeftBracket) (mark_kind m.RightBracket) inner
 
   unfoldable pub read_type : ℕ → Reader Token Tree → Reader Token Scalar
   read_type room inner = choose (begins (kinds_of plain_types)) (take_one (picked (kind text) plain_types) >>= (λ w. done (scalar w.0 absent w.1.at)))
       (take_one (picked (kind text) sized_types) >>= (λ w. choose (begins (mark_kind m.LeftBracket ∷ [])) (read_width room inner >>= (λ e. done (scalar w.0 (present e) w.1.at))) (done (scalar w.0 absent w.1.at))))
 
-  unfoldable pub read_grouped : ℕ → Reader Token Tree → Reader Token Tree
-  read_grouped room inner = read_opener room (mark_kind m.LeftParen) >>= (λ o. inner >>= (λ e. read_sign (mark_kind m.RightParen) >>= (λ c. done e)))
+  abbrev pub read_grouped : ℕ → Reader Token Tree → Reader Token Tree
+  read_grouped room inner = read_between room (mark_kind m.LeftParen) (mark_kind m.RightParen) inner
 
   unfoldable pub read_cast : ℕ → Reader Token Tree → Reader Token Tree
   read_cast room inner = read_type room inner >>= (λ s. read_grouped room inner >>= (λ e. done (cast_tree s.base s.width s.place e s.place)))
 
-  unfoldable pub read_arguments : ℕ → Reader Token Tree → Reader Token (List Tree)
-  read_arguments room inner = read_opener room (mark_kind m.LeftParen) >>= (λ o. take_any_list (kind text) comma expr_kinds inner >>= (λ es. read_sign (mark_kind m.RightParen) >>= (λ c. done es)))
+  -- a list of expressions; one that is filled has one at least
+  unfoldable pub read_list : Bool → Reader Token Tree → Reader Token (List Tree)
+  read_list true inner = take_some_list (kind text) comma expr_kinds inner
+  read_list false inner = take_any_list (kind text) comma expr_kinds inner
+
+  abbrev pub read_arguments : ℕ → Reader Token Tree → Reader Token (List Tree)
+  read_arguments room inner = read_between room (mark_kind m.LeftParen) (mark_kind m.RightParen) (read_list false inner)
 
   abbrev pub read_stop : Reader Token Tree → Maybe → Maybe → Span → Reader Token Bracket
   read_stop expr start step place = read_sign (mark_kind m.Colon) >>= (λ c. expr >>= (λ stop. done (range start step (present stop) place)))
@@ -67,19 +76,22 @@ module _ (text : List ℕ) where
   read_behind_start expr e = choose (begins (mark_kind m.Colon ∷ [])) (read_sign (mark_kind m.Colon) >>= (λ c. read_behind_colon expr (present e) (place_of e))) (done (position e))
 
   unfoldable pub read_set : ℕ → Reader Token Tree → Reader Token Bracket
-  read_set room inner = read_opener room (mark_kind m.LeftBrace) >>= (λ o. take_some_list (kind text) comma expr_kinds inner >>= (λ es. read_sign (mark_kind m.RightBrace) >>= (λ c. done (members (trees es)))))
+  read_set room inner = read_opener room (mark_kind m.LeftBrace) >>= (λ o. read_list true inner >>= (λ es. read_sign (mark_kind m.RightBrace) >>= (λ c. done (members (trees es)))))
 
   unfoldable pub read_content : ℕ → Reader Token Tree → Reader Token Tree → Reader Token Bracket
   read_content room expr inner = choose (begins (mark_kind m.LeftBrace ∷ [])) (read_set room inner)
       (choose (begins (mark_kind m.Colon ∷ [])) (read_sign (mark_kind m.Colon) >>= (λ c. read_behind_colon expr absent c.at))
       (expr >>= read_behind_start expr))
 
-  unfoldable pub read_index : ℕ → Reader Token Bracket → Reader Token Bracket
-  read_index room inside = read_opener room (mark_kind m.LeftBracket) >>= (λ o. inside >>= (λ i. read_sign (mark_kind m.RightBracket) >>= (λ c. done i)))
+  abbrev pub read_index : ℕ → Reader Token Bracket → Reader Token Bracket
+  read_index room inside = read_between room (mark_kind m.LeftBracket) (mark_kind m.RightBracket) inside
+
+  abbrev pub read_indexes : ℕ → Reader Token Bracket → Reader Token (List Bracket)
+  read_indexes room inside = take_repeated (begins (mark_kind m.LeftBracket ∷ [])) (read_index room inside)
 
   unfoldable pub read_behind_name : ℕ → Reader Token Tree → Reader Token Bracket → List ℕ × Span → Reader Token Tree
   read_behind_name room inner inside x = choose (begins (mark_kind m.LeftParen ∷ [])) (read_arguments room inner >>= (λ es. done (call x.0 (trees es) x.1)))
-      (take_repeated (begins (mark_kind m.LeftBracket ∷ [])) (read_index room inside) >>= (λ is. done (named (word x.0) (brackets is) x.1 x.1)))
+      (read_indexes room inside >>= (λ is. done (named (word x.0) (brackets is) x.1 x.1)))
 
   unfoldable pub read_prim : ℕ → Reader Token Tree → Reader Token Bracket → Reader Token Tree
   read_prim room inner inside = choose (begins literal_kinds) (take_one (literal_of text))

@@ -1,12 +1,22 @@
-// The expressions of a source text, by their grammar, and readers of lists of tokens that read them
-// exactly.
+// Expressions of a source text, read exactly from its tokens.
 //
-// It stands on `qasm_lexer` for the tokens, on `qasm_ast` for the tree, and on `grammar_parts`, by whose
-// parts the grammar is stated: `specs/Grammar.antt` has it, with the limits on levels and on chains, and
-// `specs/Reader.antt` a reader beside each part. The functions here are the laws: what a reader of
-// expressions answers, and that at most one tree is derived.
+// It stands on `qasm_lexer` for the tokens, on `qasm_ast` for the nodes and the tree, and on
+// `grammar_parts`, by whose parts the grammar is stated (`specs/Grammar.antt`), with the limits on levels
+// and on chains. The layer above uses `parse_expr`: it takes the longest list of tokens that begins an
+// expression, and answers its node and the place behind it, or the refusal at the token behind that list.
+// A parser of statements calls the functions of `parts`.
 #![tactic(auto)]
 
+mod add;
+mod expression;
 mod laws;
+mod parse;
+pub mod parts;
+mod refusal;
+mod sees;
+mod stop;
+#[cfg(test)]
+mod tests;
 
+pub use expression::{LEVELS, parse_expr};
 pub use laws::{expressions_are_read_exactly, expressions_have_one_tree, worked_rows};
