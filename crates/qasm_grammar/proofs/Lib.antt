@@ -1,0 +1,17 @@
+pub mod Worked
+pub mod Depths
+pub mod Tokens
+pub mod Pieces
+pub mod Hits
+pub mod CallLaws
+pub mod Lines
+pub mod Openings
+pub mod Bodies
+pub mod StatementLaws
+pub mod Programs
+pub mod Refusals
+pub mod WorkedRules
+pub mod Moves
+pub mod Holding
+pub mod ExprRooms
+pub mod Rooms
