@@ -1,0 +1,16 @@
+pub mod Loops
+pub mod Growing
+pub mod Showing
+pub mod Versions
+pub mod Programs
+pub mod Handed
+pub mod Texts
+pub mod Handing
+pub mod Spellings
+pub mod Filling
+pub mod Changes
+pub mod Lines
+pub mod Calling
+pub mod Nesting
+pub mod Compound
+pub mod Members

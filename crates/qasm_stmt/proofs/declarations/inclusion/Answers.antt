@@ -1,0 +1,36 @@
+use Rattle.std.proofs.Common.{refl, le_refl, arith}
+use Rattle.qasm_ast.specs.Tree.{include}
+use Rattle.qasm_grammar.specs.Reader.{read_inclusion}
+use Rattle.qasm_grammar.specs.Grammar.{at_one}
+use Rattle.qasm_stmt.proofs.Growing.{grown_same}
+use Rattle.qasm_stmt.proofs.Lines.{leave, leave_mark, line_shows}
+use Rattle.qasm_stmt.proofs.declarations.inclusion.Goals as goal
+
+pub returns-in_err-at-clause-gives : goal.returns-in_err-at-clause-gives
+unfolding read_inclusion
+returns-in_err-at-clause-gives c =
+    leave _ _ _ _ _ _ _ c.from_residual.ensures.1 _ (λ x h. rw h refl) (le_refl _) c.in_err-at.ensures.gives
+
+pub returns-in_err-next-clause-gives : goal.returns-in_err-next-clause-gives
+unfolding read_inclusion
+returns-in_err-next-clause-gives c =
+    let w = c.in_ok-at.ensures.gives in
+    leave _ _ _ _ _ _ _ c.from_residual-in_err-next.ensures.1 _ (λ x h. rw (w.4, h) refl) w.2 c.in_err-next.ensures.gives
+
+pub returns-in_err-next-2-clause-gives : goal.returns-in_err-next-2-clause-gives
+unfolding read_inclusion
+returns-in_err-next-2-clause-gives c =
+    let w = c.in_ok-at.ensures.gives in
+    let t = c.in_ok-next.ensures.gives in
+    leave_mark _ _ _ _ _ _ _ c.from_residual-in_err-next-2.ensures.1 _ (λ x h. rw (w.4, t.4, h) refl) (omega arith) t.3 c.in_err-next-2.ensures
+
+pub returns-clause-gives : goal.returns-clause-gives
+unfolding read_inclusion
+returns-clause-gives c =
+    let w = c.in_ok-at.ensures.gives in
+    let t = c.in_ok-next.ensures.gives in
+    let s = c.in_ok-next-2.ensures in
+    (at_one include w.0.at, line_shows c.args.arena.now _ _ _ _ c.line.ensures (tt, rw w.1 refl), omega arith, s.2, rw (w.4, t.4, s.4) refl)
+
+pub returns-clause-grown : goal.returns-clause-grown
+returns-clause-grown c = grown_same _

@@ -1,0 +1,12 @@
+use Rattle.std.proofs.Common.{refl, sym}
+use Rattle.qasm_stmt.proofs.Growing.{sound_by}
+use Rattle.qasm_stmt.proofs.Showing.{inner_is}
+use Rattle.qasm_stmt.proofs.Handed.{holds_on_ok, tree_given}
+use Rattle.qasm_stmt.proofs.expressions.condition.Goals as goal
+
+pub returns-clause-gives : goal.returns-clause-gives
+returns-clause-gives c =
+    rw (sym (inner_is c.args.text.now c.args.room)) (tree_given (record { names = c.between.new.names; exprs = c.between.new.nodes; stmts = c.args.arena.now.stmts }) c.args.tokens.now c.args.from _ c.between.result c.between.ensures.gives)
+
+pub returns-clause-sound : goal.returns-clause-sound
+returns-clause-sound c = holds_on_ok c.between.result (sound_by _ _ c.requires.sound c.between.ensures.grows refl)

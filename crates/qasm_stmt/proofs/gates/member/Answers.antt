@@ -1,0 +1,56 @@
+use Rattle.std.proofs.Common.{Some, drop, refl, sym, subst, ◌∙◌, le_refl}
+use Rattle.qasm_grammar.specs.Reader.{read_call_line, read_barrier_line, read_member}
+use Rattle.qasm_stmt.specs.Seen.{IsMember, tree, stmt}
+use Rattle.qasm_stmt.proofs.Growing.{grown_on}
+use Rattle.qasm_stmt.proofs.Showing.{pushed_grown, pushed_sound, pushed_member}
+use Rattle.qasm_stmt.proofs.Nesting.{leave, pushed_few}
+use Rattle.qasm_stmt.proofs.Members.{Found, call_line_allowed, barrier_line_allowed, allowed_stands}
+use Rattle.qasm_stmt.proofs.gates.member.Goals.{then-begins_call+in_ok-call_line, else-begins_call+in_ok-found}
+use Rattle.qasm_stmt.proofs.gates.member.Goals as goal
+
+pub returns-in_err-call_line-clause-gives : goal.returns-in_err-call_line-clause-gives
+unfolding read_member
+returns-in_err-call_line-clause-gives c =
+    leave (IsMember c.call_line.new.arena) c.args.tokens.now c.args.from c.args.from (read_call_line c.args.text.now (Some 64) c.args.room (drop c.args.from c.args.tokens.now)) _ c.in_err-call_line.field-0.0 c.from_residual.result c.from_residual.ensures.1 (λ x h. rw (sym c.begins_call.ensures ∙ c.if-begins_call.true, h) refl) (le_refl _) c.in_err-call_line.ensures.gives
+
+pub returns-in_err-found-clause-gives : goal.returns-in_err-found-clause-gives
+unfolding read_member
+returns-in_err-found-clause-gives c =
+    leave (IsMember c.barrier_line.new.arena) c.args.tokens.now c.args.from c.args.from (read_barrier_line c.args.text.now (Some 64) c.args.room (drop c.args.from c.args.tokens.now)) _ c.in_err-found.field-0.0 c.from_residual-in_err-found.result c.from_residual-in_err-found.ensures.1 (λ x h. rw (sym c.begins_call.ensures ∙ c.if-begins_call.false, h) refl) (le_refl _) c.in_err-found.ensures.gives
+
+-- what either way finds
+found : (c : goal.In_ok-id) → Found c.args.text.now c.args.room c.args.tokens.now c.args.from c.args.arena.now c.if-begins_call.arena c.if-begins_call.found
+unfolding read_member
+found c = elim c.if-begins_call.branch as (λ z. Found c.args.text.now c.args.room c.args.tokens.now c.args.from c.args.arena.now c.if-begins_call.arena c.if-begins_call.found) [
+  | then-begins_call+in_ok-call_line w ↦
+      let g = w.in_ok-call_line.ensures.gives in
+      subst (λ b. Found c.args.text.now c.args.room c.args.tokens.now c.args.from c.args.arena.now b c.if-begins_call.found) (sym w.arena-is)
+      (subst (Found c.args.text.now c.args.room c.args.tokens.now c.args.from c.args.arena.now w.call_line.new.arena) (sym w.found-is)
+      (record { shown = g.0; line = g.1; allowed = call_line_allowed c.args.text.now (Some 64) c.args.room (drop c.args.from c.args.tokens.now) (drop w.in_ok-call_line.next c.args.tokens.now) g.0 g.4; on = g.2; within = g.3; read = rw (sym c.begins_call.ensures ∙ w.if-begins_call.true, g.4) refl; grown = w.in_ok-call_line.ensures.grown; few = w.in_ok-call_line.ensures.few; sound = w.in_ok-call_line.ensures.sound }))
+  | else-begins_call+in_ok-found w ↦
+      let g = w.in_ok-found.ensures.gives in
+      subst (λ b. Found c.args.text.now c.args.room c.args.tokens.now c.args.from c.args.arena.now b c.if-begins_call.found) (sym w.arena-is)
+      (subst (Found c.args.text.now c.args.room c.args.tokens.now c.args.from c.args.arena.now w.barrier_line.new.arena) (sym w.found-is)
+      (record { shown = g.0; line = g.1; allowed = barrier_line_allowed c.args.text.now (Some 64) c.args.room (drop c.args.from c.args.tokens.now) (drop w.in_ok-found.next c.args.tokens.now) g.0 g.4; on = g.2; within = g.3; read = rw (sym c.begins_call.ensures ∙ w.if-begins_call.false, g.4) refl; grown = w.in_ok-found.ensures.grown; few = w.in_ok-found.ensures.few; sound = w.in_ok-found.ensures.sound }))
+]
+
+pub returns-clause-gives : goal.returns-clause-gives
+returns-clause-gives c =
+    let f = found c in
+    let stands = allowed_stands c.if-begins_call.arena.names.keys (tree c.if-begins_call.arena) (stmt c.if-begins_call.arena) c.if-begins_call.found.0 f.shown f.line.1 f.allowed in
+    (f.shown, pushed_member c.if-begins_call.arena c.push.new.arena c.if-begins_call.found.0 c.in_ok-id.id f.sound c.in_ok-id.ensures.pushed f.shown f.line stands, f.on, f.within, f.read)
+
+pub returns-clause-grown : goal.returns-clause-grown
+returns-clause-grown c =
+    let f = found c in
+    grown_on f.grown (pushed_grown c.if-begins_call.arena c.push.new.arena c.if-begins_call.found.0 c.in_ok-id.id f.sound c.in_ok-id.ensures.pushed)
+
+pub returns-clause-few : goal.returns-clause-few
+returns-clause-few c =
+    let f = found c in
+    pushed_few c.if-begins_call.arena c.push.new.arena c.if-begins_call.found.0 c.in_ok-id.id c.if-begins_call.found.1 c.in_ok-id.ensures.pushed f.few
+
+pub returns-clause-sound : goal.returns-clause-sound
+returns-clause-sound c =
+    let f = found c in
+    pushed_sound c.if-begins_call.arena c.push.new.arena c.if-begins_call.found.0 c.in_ok-id.id f.sound c.in_ok-id.ensures.pushed f.line.0

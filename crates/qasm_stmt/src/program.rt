@@ -1,0 +1,53 @@
+//! The program that the tokens of a text are.
+
+ghost use Rattle.std.specs.Prelude.{◌≡◌, ◌≤◌, Some, Ok, length, nat_eq, IfOk};
+ghost use Rattle.std.specs.List.{IsDistinct};
+ghost use Rattle.std.specs.Cmp.Lexicographic.{pointwise};
+ghost use Rattle.qasm_lexer.specs.Tokens.{Tokens};
+ghost use Rattle.qasm_stmt.specs.Parsed.{IsParsed};
+
+use crate::arena::Arena;
+use crate::refusal::fault_of;
+use crate::whole::whole;
+use indexmap::IndexSet;
+use qasm_ast::{Items, Program, Word};
+use qasm_expr::parts::Stop;
+use qasm_lexer::{MOST_BYTES, Token, end_of};
+use qq_base::Fault;
+use std::alloc::{AllocError, Global};
+
+/// The names in their order, of which no two are equal.
+fn words(alloc: Global, names: IndexSet<Word>) -> Result<Vec<Word>, AllocError>
+    ensures items { IfOk result (λ v. v.items ≡ names.keys) }
+    ensures distinct { IfOk result (λ v. IsDistinct (pointwise nat_eq) v.items) }
+{
+    // That no two are equal, `len` says.
+    let _ = names.len();
+    let words = names.into_iter().collect(alloc)?;
+    Ok(words)
+}
+
+/// Reads the program that the tokens of a text are: its one tree, with the place of the end of the text.
+/// Else it refuses at the first token after which no program goes on, or at the end of the text: by
+/// `NestingDeep` where only a limit forbids the token, by `LeftOut` at what the profile leaves out, by
+/// `Version` at another version or a second `OPENQASM`, by `Include` at another file, and else by `Syntax`.
+pub fn parse_program(alloc: Global, text: &str, tokens: &[Token]) -> Result<Program, Fault>
+    requires size { length text.now ≤ MOST_BYTES }
+    requires lexed { Tokens text.now (Ok tokens.now) }
+    ensures { IsParsed text.now tokens.now result }
+{
+    let mut arena = Arena::new(alloc);
+    let (top, at) = match whole(alloc, text.as_bytes(), tokens, &mut arena) {
+        Ok(found) => found,
+        Err(stop) => return Err(fault_of(alloc, text, tokens, stop)),
+    };
+    if at < tokens.len() {
+        return Err(fault_of(alloc, text, tokens, Stop::Syntax(at)));
+    }
+    let Ok(names) = words(alloc, arena.names) else {
+        return Err(Fault::Memory);
+    };
+    let end = end_of(text.as_bytes());
+    let top = Items { items: top };
+    Ok(Program::new(alloc, names, arena.exprs, arena.stmts, top, end)?)
+}
