@@ -6,6 +6,7 @@ mod Numbers
 mod Orders
 mod Pieces
 mod Prefixes
+mod Programs
 mod Runs
 mod Shapes
 mod Telling

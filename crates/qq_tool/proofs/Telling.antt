@@ -3,11 +3,12 @@ use Rattle.std.proofs.Common.{◌≡◌, ◌≢◌, ◌⊎◌, ℕ, ◌≤◌, L
 use Rattle.std.proofs.lemmas.List.{length-append, take-append-drop}
 use Rattle.std.specs.Io.KnownBytes.{Appends, Consumes, IsAtEnd, Keeps}
 use Rattle.qq_base.specs.declared.refusal.Refusal.{Refusal}
-use Rattle.qq_tool.specs.declared.command.Command.TheVariants.{Compile}
-use Rattle.qq_tool.specs.Refused.{IsRefused}
+use Rattle.qq_tool.specs.declared.command.Command.{Command}
+use Rattle.qq_tool.specs.declared.command.Command.TheVariants.{Compile, Check}
+use Rattle.qq_tool.specs.Refused.{IsRefused, source_limit}
 use Rattle.qq_tool.specs.Thin.{IsThinText}
 use Rattle.qq_tool.proofs.Lengths.{not_refused}
-use Rattle.qq_tool.specs.Answer.{IsAnswer, Change, change, Adds, AddsPart, IsDueStatus, Tells}
+use Rattle.qq_tool.specs.Answer.{IsAnswer, IsInput, IsShort, IsStatusOf, Change, change, Adds, AddsPart, IsDueStatus, Tells}
 use Rattle.qq_tool.specs.Due.{Texts, Due}
 
 pub keeps_same : (bytes : Option (List ℕ)) → Keeps bytes bytes
@@ -88,29 +89,48 @@ came_within (Some xs) (Some ys) came bytes gone same =
     let told : xs ≡ bytes = cc in
     omega (arith, ap length gone, ap length told, length-append came ys)
 
+-- ---- every command reads its whole input
+
+pub input_told : (command : Command) (left : Option (List ℕ)) (bytes : List ℕ) → IsInput (Some command) left bytes → left ≡ Some bytes
+input_told Compile left bytes same = same
+input_told Check left bytes same = same
+
+pub told_input : (command : Command) (left : Option (List ℕ)) (bytes : List ℕ) → left ≡ Some bytes → IsInput (Some command) left bytes
+told_input Compile left bytes same = same
+told_input Check left bytes same = same
+
+pub short_told : (command : Command) (bytes : List ℕ) → IsShort (Some command) bytes → length bytes ≤ source_limit
+short_told Compile bytes short = short
+short_told Check bytes short = short
+
+pub status_of : (command : Command) (status : ℕ) → (status ≤ 5) × (status ≢ 2) → IsStatusOf (Some command) status
+status_of Compile status is = is
+status_of Check status is = is
+
 -- ---- accepted and refused
 
 -- the texts that are due at a status other than those of a fault
-due_of : (input out err : Change) (status : ℕ) (bytes : List ℕ) → IsAnswer (Some Compile) input out err status
-    → input.before ≡ Some bytes → IsDueStatus status → (texts : Texts) × Due (Some Compile) bytes status texts
-due_of input out err status bytes answer same settled = let told = (answer.tells bytes same).done settled in (told.0, told.1)
+due_of : (command : Command) (input out err : Change) (status : ℕ) (bytes : List ℕ) → IsAnswer (Some command) input out err status
+    → input.before ≡ Some bytes → IsDueStatus status → (texts : Texts) × Due (Some command) bytes status texts
+due_of command input out err status bytes answer same settled =
+    let told = (answer.tells bytes (told_input command input.before bytes same)).done settled in (told.0, told.1)
 
 -- no text that is accepted is refused
-pub accepts : (input out err : Change) (status : ℕ) → IsAnswer (Some Compile) input out err status
+pub accepts : (command : Command) (input out err : Change) (status : ℕ) → IsAnswer (Some command) input out err status
     → (bytes : List ℕ) → input.before ≡ Some bytes → IsThinText bytes → status ≢ 1
-accepts input out err status answer bytes same thin is_one =
-    at (due_of input out err status bytes answer same ((λ h. omega (arith, h, is_one)), (λ h. omega (arith, h, is_one)), (λ h. omega (arith, h, is_one))))
+accepts command input out err status answer bytes same thin is_one =
+    at (due_of command input out err status bytes answer same ((λ h. omega (arith, h, is_one)), (λ h. omega (arith, h, is_one)), (λ h. omega (arith, h, is_one))))
   where
-    at : ((texts : Texts) × Due (Some Compile) bytes status texts) → ⊥
+    at : ((texts : Texts) × Due (Some command) bytes status texts) → ⊥
     at (texts, inl refusal) = not_refused bytes refusal.2 thin refusal.3
     at (texts, inr text) = omega (arith, text.0, is_one)
 
 -- no text that is refused is accepted
-pub refuses : (input out err : Change) (status : ℕ) → IsAnswer (Some Compile) input out err status
+pub refuses : (command : Command) (input out err : Change) (status : ℕ) → IsAnswer (Some command) input out err status
     → (bytes : List ℕ) (refusal : Refusal) → input.before ≡ Some bytes → IsRefused bytes refusal → status ≢ 0
-refuses input out err status answer bytes refusal same refused is_zero =
-    at (due_of input out err status bytes answer same ((λ h. omega (arith, h, is_zero)), (λ h. omega (arith, h, is_zero)), (λ h. omega (arith, h, is_zero))))
+refuses command input out err status answer bytes refusal same refused is_zero =
+    at (due_of command input out err status bytes answer same ((λ h. omega (arith, h, is_zero)), (λ h. omega (arith, h, is_zero)), (λ h. omega (arith, h, is_zero))))
   where
-    at : ((texts : Texts) × Due (Some Compile) bytes status texts) → ⊥
+    at : ((texts : Texts) × Due (Some command) bytes status texts) → ⊥
     at (texts, inl other) = omega (arith, other.0, is_zero)
-    at (texts, inr text) = not_refused bytes refusal (text.2.0, text.2.1) refused
+    at (texts, inr text) = not_refused bytes refusal (text.2, text.3) refused

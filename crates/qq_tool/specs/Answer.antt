@@ -3,7 +3,7 @@ use Rattle.std.specs.Prelude.{ℕ, ◌≡◌, ◌≢◌, ◌<◌, ◌≤◌, ◌
 use Rattle.std.specs.Io.KnownBytes.{Appends, Keeps}
 use Rattle.qq_streams.specs.Faults.{HasRisen}
 use Rattle.qq_tool.specs.declared.command.Command.{Command}
-use Rattle.qq_tool.specs.declared.command.Command.TheVariants.{Compile}
+use Rattle.qq_tool.specs.declared.command.Command.TheVariants.{Compile, Check}
 use Rattle.qq_tool.specs.Refused.{source_limit}
 use Rattle.qq_tool.specs.Due.{Texts, Due}
 
@@ -62,21 +62,25 @@ pub record Writes (out err : Change) (status : ℕ) : Type 0 where
 abbrev pub IsReading : Option Command → Type 0
 IsReading None = ⊥
 IsReading (Some Compile) = Unit {0}
+IsReading (Some Check) = Unit {0}
 
 -- The bytes are the input of the command; where it reads nothing, any bytes are.
 abbrev pub IsInput : Option Command → Option (List ℕ) → List ℕ → Type 0
 IsInput None left bytes = Unit {0}
 IsInput (Some Compile) left bytes = left ≡ Some bytes
+IsInput (Some Check) left bytes = left ≡ Some bytes
 
 -- the input has no more bytes than the command takes
 abbrev pub IsShort : Option Command → List ℕ → Type 0
 IsShort None bytes = Unit {0}
 IsShort (Some Compile) bytes = length bytes ≤ source_limit
+IsShort (Some Check) bytes = length bytes ≤ source_limit
 
 -- Words that are no command have only their own status or that of a write fault, and no command has theirs.
 abbrev pub IsStatusOf : Option Command → ℕ → Type 0
 IsStatusOf None status = (status ≡ 2) ⊎ (status ≡ 4)
 IsStatusOf (Some Compile) status = (status ≤ 5) × (status ≢ 2)
+IsStatusOf (Some Check) status = (status ≤ 5) × (status ≢ 2)
 
 -- The answer of the top call to a command. Where a stream does not tell its bytes, nothing is said of them,
 -- and the rest stands.

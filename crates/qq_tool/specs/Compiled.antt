@@ -1,10 +1,10 @@
--- Which texts a compiler may write for a source text.
+-- Which texts a compiler may write for a program.
 use Rattle.std.specs.Prelude.{ℕ, ◌≡◌, Bool, List}
 use Rattle.qir_module.specs.Module.{Module, IsShaped}
 use Rattle.qir_module.specs.Written.{written}
 use Rattle.qir_module.specs.Numbered.{IsNumbered}
 use Rattle.qir_module.specs.Machine.{machine_run}
-use Rattle.qq_tool.specs.Thin.{Thin, Spells}
+use Rattle.qq_tool.specs.Thin.{Thin}
 use Rattle.qq_tool.specs.ThinRun.{source_run, labels_of}
 
 -- The module does what the program does: for every list of measurement outcomes and every number of loop
@@ -16,6 +16,6 @@ pub record Implements (m : Module) (p : Thin) : Type 0 where
   pub qubits : m.qubits ≡ p.qubits
   pub same_run : (outcomes : List Bool) (turns : ℕ) → machine_run m outcomes turns ≡ source_run p outcomes turns
 
--- the text is the canonical text of a module that does what the source text says
-abbrev pub IsCompiled : List ℕ → List ℕ → Type 0
-IsCompiled source text = (p : Thin) × Spells source p × (m : Module) × Implements m p × (text ≡ written m)
+-- the text is the canonical text of a module that does what the program does
+abbrev pub IsCompiled : Thin → List ℕ → Type 0
+IsCompiled p text = (m : Module) × Implements m p × (text ≡ written m)

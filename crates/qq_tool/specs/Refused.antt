@@ -1,25 +1,42 @@
 -- Which source texts are refused, by which rule and where, and the line that says so.
-use Rattle.std.specs.Prelude.{ℕ, ◌+◌, ◌/◌, ◌%◌, ◌<◌, ◌≤◌, ◌≡◌, ◌⊎◌, List, [], ◌∷◌, ◌++◌, length, codes}
+use Rattle.std.specs.Prelude.{ℕ, ◌+◌, ◌/◌, ◌%◌, ◌<◌, ◌≤◌, ◌≡◌, ◌⊎◌, List, [], ◌∷◌, ◌++◌, length, codes, Some, Ok, Err}
 use Rattle.std.specs.Fmt.{decimal}
 use Rattle.qq_base.specs.declared.rule.Rule.{Rule}
 use Rattle.qq_base.specs.declared.rule.Rule.TheVariants.{NotBuilt, InputTooLong}
 use Rattle.qq_base.specs.declared.refusal.Refusal.{Refusal}
 use Rattle.qq_base.specs.Rule.{number_of, name_of}
+use Rattle.qasm_lexer.specs.declared.lexer.TheConstants.{MOST_BYTES}
+use Rattle.qasm_lexer.specs.declared.token.Token.{Token}
+use Rattle.qasm_lexer.specs.Tokens.{Tokens}
+use Rattle.qasm_ast.specs.Tree.{Statements}
+use Rattle.qasm_grammar.specs.Whole.{IsProgramOf}
+use Rattle.qasm_grammar.specs.Stops.{IsRefused as AreRefused}
 use Rattle.qir_module.specs.Text.{line}
 use Rattle.qq_tool.specs.Thin.{IsThinText}
 
--- the greatest number of bytes of a source text
+-- the greatest number of bytes of a source text: 4,194,304
 abbrev pub source_limit : ℕ
-source_limit = 4194304
+source_limit = MOST_BYTES
 
 abbrev pub at_start : Rule → Refusal
 at_start rule = record { rule = rule; at = record { line = 1; column = 1 } }
 
--- The first rule that a source text breaks: its length, and then whether it is of a form that is built.
+-- the text is a program of the language: its tokens are one, with 64 levels and 64 operators in a chain
+abbrev pub IsProgramText : List ℕ → Type 0
+IsProgramText bytes = (tokens : List Token) × Tokens bytes (Ok tokens) × (ss : Statements) × IsProgramOf bytes (Some 64) 64 tokens ss
+
+-- The text has no tokens, by a rule of tokens; or it has, and they are no program, by a rule of programs.
+abbrev pub BreaksRule : List ℕ → Refusal → Type 0
+BreaksRule bytes refusal =
+    Tokens bytes (Err refusal)
+    ⊎ ((tokens : List Token) × Tokens bytes (Ok tokens) × AreRefused bytes (Some 64) 64 tokens refusal)
+
+-- The first rule that a source text breaks: its length, the rules of tokens and those of programs; and where
+-- it breaks none of these, that it is of a form that is not built. A thin text is not refused.
 abbrev pub IsRefused : List ℕ → Refusal → Type 0
 IsRefused bytes refusal =
     ((source_limit < length bytes) × (refusal ≡ at_start InputTooLong))
-    ⊎ ((length bytes ≤ source_limit) × ¬ IsThinText bytes × (refusal ≡ at_start NotBuilt))
+    ⊎ ((length bytes ≤ source_limit) × ¬ IsThinText bytes × (BreaksRule bytes refusal ⊎ (IsProgramText bytes × (refusal ≡ at_start NotBuilt))))
 
 -- a number below 100 in two digits
 abbrev pub two_digits : ℕ → List ℕ

@@ -8,6 +8,8 @@ ghost use Rattle.qq_tool.specs.Command.{command_of as command_in};
 pub enum Command {
     /// Source text in, QIR text out.
     Compile,
+    /// Source text in, and only whether it is accepted out.
+    Check,
 }
 
 /// The command that the words name, if any.
@@ -16,6 +18,7 @@ pub fn command_of(words: &[String]) -> Option<Command>
 {
     match words {
         [word] if word.as_str() == "compile" => Some(Command::Compile),
+        [word] if word.as_str() == "check" => Some(Command::Check),
         _ => None,
     }
 }

@@ -3,6 +3,8 @@
 
 use super::run_tool;
 use qq_streams::{MemorySink, MemorySource};
+use std::alloc::Global;
+use std::process::Abort;
 use std::test::Fail;
 
 /// A Bell pair, measured.
@@ -118,26 +120,23 @@ const SOUND: Streams<'static> = Streams {
 };
 
 /// Runs the tool with one word.
-fn run(rt: &HostRuntime, word: &str, source: &[u8], streams: &Streams) -> Result<Answer, Fail> {
-    let words = vec![in rt.alloc(); String::from_str(rt.alloc(), word)?]?;
-    let mut input = MemorySource::new(
-        source.to_vec(rt.alloc())?,
-        streams.input.to_vec(rt.alloc())?,
-    );
+fn run(alloc: Global, word: &str, source: &[u8], streams: &Streams) -> Result<Answer, Fail> {
+    let words = vec![in alloc; String::from_str(alloc, word)?]?;
+    let mut input = MemorySource::new(source.to_vec(alloc)?, streams.input.to_vec(alloc)?);
     let piece = streams.piece.max(1);
-    let mut out = MemorySink::new(rt.alloc(), 10_000, piece, streams.out.to_vec(rt.alloc())?)
+    let mut out = MemorySink::new(alloc, 10_000, piece, streams.out.to_vec(alloc)?)
         .ok()
         .ok_or("out of memory")?;
-    let mut err = MemorySink::new(rt.alloc(), 100, piece, streams.err.to_vec(rt.alloc())?)
+    let mut err = MemorySink::new(alloc, 100, piece, streams.err.to_vec(alloc)?)
         .ok()
         .ok_or("out of memory")?;
-    let status = run_tool(rt.alloc(), &words, &mut input, &mut out, &mut err);
+    let status = run_tool(alloc, &words, &mut input, &mut out, &mut err);
     Ok(Answer { status, out, err })
 }
 
-/// So many blanks.
-fn blanks(rt: &HostRuntime, count: usize) -> Result<Vec<u8>, Fail> {
-    Ok(vec![in rt.alloc(); b' '; count]?)
+/// A byte, so many times.
+fn copies(alloc: Global, byte: u8, count: usize) -> Result<Vec<u8>, Fail> {
+    Ok(vec![in alloc; byte; count]?)
 }
 
 #[test]
@@ -147,10 +146,13 @@ fn texts_are_those_written_by_hand(rt: HostRuntime) -> Result<(), Fail> {
         ("compile", NOTHING_DONE, 0, NOTHING_DONE_QIR, ""),
         ("compile", "", 1, "", NOT_BUILT),
         ("compile", "qubit q;\n", 1, "", NOT_BUILT),
-        ("check", BELL_PAIR, 2, "", "bad words\n"),
+        ("check", BELL_PAIR, 0, "ok\n", ""),
+        ("check", NOTHING_DONE, 0, "ok\n", ""),
+        ("check", "", 1, "", NOT_BUILT),
+        ("verify", BELL_PAIR, 2, "", "bad words\n"),
         ("", BELL_PAIR, 2, "", "bad words\n"),
     ] {
-        let answer = run(&rt, word, source.as_bytes(), &SOUND)?;
+        let answer = run(rt.alloc(), word, source.as_bytes(), &SOUND)?;
         assert_eq!(rt; answer.status, status, "{word}");
         assert_eq!(rt; answer.out.bytes(), out.as_bytes(), "{word}");
         assert_eq!(rt; answer.err.bytes(), err.as_bytes(), "{word}");
@@ -158,30 +160,99 @@ fn texts_are_those_written_by_hand(rt: HostRuntime) -> Result<(), Fail> {
     Ok(())
 }
 
-#[test]
-fn an_input_over_the_limit_is_refused_as_such(rt: HostRuntime) -> Result<(), Fail> {
-    let answer = run(&rt, "compile", &blanks(&rt, 4_194_305)?, &SOUND)?;
-    assert_eq!(rt; answer.status, 1);
-    assert_eq!(rt;
-        answer.err.bytes(),
-        b"refused Q01 InputTooLong at 1:1\n".as_slice()
-    );
-    assert!(rt; answer.out.bytes().is_empty());
-    let answer = run(&rt, "compile", &blanks(&rt, 4_194_304)?, &SOUND)?;
-    assert_eq!(rt; answer.err.bytes(), NOT_BUILT.as_bytes());
+/// A whole number and so many sums with 1 behind it.
+fn sums(alloc: Global, count: usize) -> Result<String, Fail> {
+    let mut text = String::from_str(alloc, "int x = 1")?;
+    for _ in 0..count {
+        text.push_str("+1")?;
+    }
+    text.push_str(";")?;
+    Ok(text)
+}
+
+/// Both commands refuse the source text with this line.
+fn refuses(rt: &impl Abort, alloc: Global, source: &[u8], line: &str) -> Result<(), Fail> {
+    for word in ["compile", "check"] {
+        let answer = run(alloc, word, source, &SOUND)?;
+        assert_eq!(rt; answer.err.bytes(), line.as_bytes(), "{word}");
+        assert_eq!(rt; answer.status, 1, "{word}");
+        assert!(rt; answer.out.bytes().is_empty(), "{word}");
+    }
     Ok(())
 }
 
 #[test]
+fn an_input_over_the_limit_is_refused_as_such(rt: HostRuntime) -> Result<(), Fail> {
+    let alloc = rt.alloc();
+    let longer = copies(alloc, b' ', 4_194_305)?;
+    refuses(&rt, alloc, &longer, "refused Q01 InputTooLong at 1:1\n")?;
+    // No blanks, so that the first byte is refused.
+    let longest = copies(alloc, b'?', 4_194_304)?;
+    refuses(&rt, alloc, &longest, "refused Q03 BadCharacter at 1:1\n")
+}
+
+#[test]
+fn texts_are_refused_by_the_rules_of_tokens(rt: HostRuntime) -> Result<(), Fail> {
+    let alloc = rt.alloc();
+    refuses(&rt, alloc, &[255], "refused Q02 NotUtf8 at 1:1\n")?;
+    for (source, line) in [
+        ("a ?", "refused Q03 BadCharacter at 1:3\n"),
+        ("int x = 1; /* a", "refused Q04 OpenComment at 1:12\n"),
+        ("\"a'", "refused Q05 OpenString at 1:1\n"),
+        ("$4294967296", "refused Q06 LiteralRange at 1:1\n"),
+        ("rz(0.5*pi) q;", "refused Q07 FloatLiteral at 1:4\n"),
+        // A fault of the tokens comes before one of the program.
+        ("int x = ;\n?", "refused Q03 BadCharacter at 2:1\n"),
+    ] {
+        refuses(&rt, alloc, source.as_bytes(), line)?;
+    }
+    Ok(())
+}
+
+#[test]
+fn texts_are_refused_by_the_rules_of_programs(rt: HostRuntime) -> Result<(), Fail> {
+    let alloc = rt.alloc();
+    for (source, line) in [
+        ("int x = ;", "refused Q09 Syntax at 1:9\n"),
+        ("int x", "refused Q09 Syntax at 1:6\n"),
+        ("if (true) else", "refused Q09 Syntax at 1:11\n"),
+        (
+            "OPENQASM 3.0; OPENQASM 3.0;",
+            "refused Q10 Version at 1:15\n",
+        ),
+        ("float x;", "refused Q11 LeftOut at 1:1\n"),
+        ("include \"q.inc\";", "refused Q12 Include at 1:9\n"),
+        ("int x = 1_000; // c", NOT_BUILT),
+        ("bit π1;", NOT_BUILT),
+    ] {
+        refuses(&rt, alloc, source.as_bytes(), line)?;
+    }
+    // With a blank in it a thin text is none, and it is a program.
+    let spaced = format!(in alloc; "{BELL_PAIR}x q[0]; \n")?;
+    refuses(&rt, alloc, spaced.as_bytes(), NOT_BUILT)?;
+    refuses(&rt, alloc, sums(alloc, 64)?.as_bytes(), NOT_BUILT)?;
+    refuses(
+        &rt,
+        alloc,
+        sums(alloc, 65)?.as_bytes(),
+        "refused Q08 NestingDeep at 1:138\n",
+    )
+}
+
+#[test]
 fn each_read_fails_in_turn(rt: HostRuntime) -> Result<(), Fail> {
-    for source in [BELL_PAIR, ""] {
+    for (word, source) in [
+        ("compile", BELL_PAIR),
+        ("compile", ""),
+        ("check", BELL_PAIR),
+    ] {
         for call in 0..3u32 {
             let failing = [call];
             let streams = Streams {
                 input: &failing,
                 ..SOUND
             };
-            let answer = run(&rt, "compile", source.as_bytes(), &streams)?;
+            let answer = run(rt.alloc(), word, source.as_bytes(), &streams)?;
             // One read gives the text and one its end; an empty text is at its end at once.
             let reads = if source.is_empty() { 1 } else { 2 };
             let sound = if source.is_empty() { 1 } else { 0 };
@@ -200,6 +271,8 @@ fn each_write_fails_in_turn(rt: HostRuntime) -> Result<(), Fail> {
     for (word, source, out, err, piece) in [
         ("compile", BELL_PAIR, BELL_PAIR_QIR, "", 16usize),
         ("compile", "", "", NOT_BUILT, 5),
+        ("check", BELL_PAIR, "ok\n", "", 2),
+        ("check", "?", "", "refused Q03 BadCharacter at 1:1\n", 5),
         ("no command", "", "", "bad words\n", 3),
     ] {
         let due = out.len() + err.len();
@@ -211,7 +284,7 @@ fn each_write_fails_in_turn(rt: HostRuntime) -> Result<(), Fail> {
                 err: &failing,
                 piece,
             };
-            let answer = run(&rt, word, source.as_bytes(), &streams)?;
+            let answer = run(rt.alloc(), word, source.as_bytes(), &streams)?;
             let written = (call * piece).min(due);
             assert_eq!(rt; answer.status == 4, written < due, "call {call} of {word}");
             assert_eq!(rt;

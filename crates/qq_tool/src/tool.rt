@@ -1,20 +1,21 @@
 //! The top call.
 
-ghost use Rattle.std.specs.Prelude.{◌≡◌, ◌≢◌, ◌≤◌, ◌⊎◌, List, ℕ, length, map, Some, IsNone, string_bytes};
+ghost use Rattle.std.specs.Prelude.{◌≡◌, ◌≢◌, ◌≤◌, ◌⊎◌, List, ℕ, length, map, Some, IsNone, IfOk, string_bytes};
 ghost use Rattle.qq_base.specs.declared.refusal.Refusal.{Refusal};
-ghost use Rattle.qq_tool.specs.declared.command.Command.{Command};
-ghost use Rattle.qq_tool.specs.declared.command.Command.TheVariants.{Compile};
 ghost use Rattle.qq_tool.specs.Answer.{change, Tells, Writes, IsAnswer, IsFaulty, Adds, AddsPart, AddsNothing};
 ghost use Rattle.qq_tool.specs.Command.{command_of as command_in};
-ghost use Rattle.qq_tool.specs.Due.{Due};
-ghost use Rattle.qq_tool.specs.Refused.{IsRefused, refusal_line, source_limit};
+ghost use Rattle.qq_tool.specs.Due.{Due, IsOutput};
+ghost use Rattle.qq_tool.specs.Refused.{IsRefused, refusal_line};
 ghost use Rattle.qq_tool.specs.Thin.{IsThinText};
 
+use crate::check::{at_start, checked};
 use crate::command::{Command, command_of};
 use crate::compile::compiled;
 use crate::refusal_text::refusal_text;
 use crate::tell::tell;
-use qq_base::{Fault, Refusal, Rule, Span};
+use crate::thin::ThinProgram;
+use qasm_lexer::MOST_BYTES;
+use qq_base::{Fault, NoMemory, Refusal, Rule};
 use qq_streams::{ReadAllFault, Sink, Source, read_all};
 use std::alloc::Global;
 
@@ -29,14 +30,15 @@ const READ_FAULT: u8 = 3;
 const NO_MEMORY: u8 = 5;
 
 /// The greatest number of bytes of a source text.
-const SOURCE_LIMIT: u64 = 4_194_304;
+const SOURCE_LIMIT: u64 = MOST_BYTES as u64;
 
 /// Does what the words say: reads `input`, writes the text that is due on `out` and the reason of a refusal on
-/// `err`, and answers the status. The one command so far is `compile`, from source text to QIR text.
+/// `err`, and answers the status. The commands so far are `compile`, from source text to QIR text, and
+/// `check`, which writes the line `ok` where `compile` writes QIR text.
 ///
 /// | status | comes |
 /// |---|---|
-/// | 0 | with the whole QIR text on `out`, and nothing on `err` |
+/// | 0 | with the whole text of the command on `out`, and nothing on `err` |
 /// | 1 | exactly where the input is refused; its line is on `err`, and nothing on `out` |
 /// | 2 | exactly where the words are no command; nothing is read, and `bad words` is on `err` |
 /// | 3 | only where the count of faults of `input` rose in this call; nothing is written |
@@ -45,7 +47,7 @@ const SOURCE_LIMIT: u64 = 4_194_304;
 ///
 /// Each "exactly where" yields to 3, 4 and 5. `IsAnswer` of `specs/Answer.antt` has the whole clause, and
 /// `Due` of `specs/Due.antt` what is due: for `compile` the canonical text of a module that runs exactly as
-/// the source does.
+/// the source does, and for both the refusal of `IsRefused` in `specs/Refused.antt`.
 pub fn run_tool<S: Source, O: Sink, E: Sink>(
     alloc: Global,
     words: &[String],
@@ -65,41 +67,41 @@ pub fn run_tool<S: Source, O: Sink, E: Sink>(
 {
     match command_of(words) {
         None => tell(err, b"bad words\n", BAD_WORDS),
-        Some(Command::Compile) => compile(alloc, input, out, err),
+        Some(command) => perform(alloc, command, input, out, err),
     }
 }
 
-/// The command `compile`.
-fn compile<S: Source, O: Sink, E: Sink>(
+/// Does what a command says.
+fn perform<S: Source, O: Sink, E: Sink>(
     alloc: Global,
+    command: Command,
     input: &mut S,
     out: &mut O,
     err: &mut E,
 ) -> u8
-    ensures { IsAnswer (Some Compile)
+    ensures { IsAnswer (Some command)
         (change (S.left input.old) (S.left input.new) (S.faults input.old) (S.faults input.new))
         (change (O.taken out.old) (O.taken out.new) (O.faults out.old) (O.faults out.new))
         (change (E.taken err.old) (E.taken err.new) (E.faults err.old) (E.faults err.new)) result }
 {
     match read_all(alloc, input, SOURCE_LIMIT) {
-        Ok(source) => answer(alloc, &source, out, err),
-        Err(ReadAllFault::TooLong) => report(
-            alloc,
-            Refusal {
-                rule: Rule::InputTooLong,
-                at: Span { line: 1, column: 1 },
-            },
-            err,
-        ),
+        Ok(source) => answer(alloc, command, &source, out, err),
+        Err(ReadAllFault::TooLong) => report(alloc, at_start(Rule::InputTooLong), err),
         Err(ReadAllFault::ReadFault) => READ_FAULT,
         Err(ReadAllFault::Memory) => NO_MEMORY,
     }
 }
 
 /// Answers a source text that was read to its end.
-fn answer<O: Sink, E: Sink>(alloc: Global, source: &[u8], out: &mut O, err: &mut E) -> u8
-    requires { length source.now ≤ source_limit }
-    ensures tells { Tells (Due (Some Compile) source.now)
+fn answer<O: Sink, E: Sink>(
+    alloc: Global,
+    command: Command,
+    source: &[u8],
+    out: &mut O,
+    err: &mut E,
+) -> u8
+    requires { length source.now ≤ MOST_BYTES }
+    ensures tells { Tells (Due (Some command) source.now)
         (change (O.taken out.old) (O.taken out.new) (O.faults out.old) (O.faults out.new))
         (change (E.taken err.old) (E.taken err.new) (E.faults err.old) (E.faults err.new)) result }
     ensures writes { Writes
@@ -107,10 +109,23 @@ fn answer<O: Sink, E: Sink>(alloc: Global, source: &[u8], out: &mut O, err: &mut
         (change (E.taken err.old) (E.taken err.new) (E.faults err.old) (E.faults err.new)) result }
     ensures statuses { (result ≤ 5) × (result ≢ 2) × (result ≢ 3) }
 {
-    match compiled(alloc, source) {
-        Ok(text) => tell(out, &text, SUCCESS),
+    match checked(alloc, source) {
+        Ok(program) => match output_of(alloc, command, &program) {
+            Ok(text) => tell(out, &text, SUCCESS),
+            Err(NoMemory) => NO_MEMORY,
+        },
         Err(Fault::Refused(refusal)) => report(alloc, refusal, err),
         Err(Fault::Memory) => NO_MEMORY,
+    }
+}
+
+/// What the command writes on `out` for a program.
+fn output_of(alloc: Global, command: Command, program: &ThinProgram) -> Result<Vec<u8>, NoMemory>
+    ensures { IfOk result (λ text. IsOutput command program.now text.items) }
+{
+    match command {
+        Command::Compile => compiled(alloc, program),
+        Command::Check => Ok(Vec::from_slice(alloc, b"ok\n")?),
     }
 }
 

@@ -29,20 +29,20 @@ returns-in-None-clause-answer g c =
     } in
     subst (λ (command : Option Command). IsAnswer command input out err c.tell.result) c.in-None.ensures bad
 
-pub returns-in-Some-Compile-clause-accepted : goal.returns-in-Some-Compile-clause-accepted
-returns-in-Some-Compile-clause-accepted g c =
+pub returns-in-Some-clause-accepted : goal.returns-in-Some-clause-accepted
+returns-in-Some-clause-accepted g c =
     let left = g.S.Source.left in
     let faults = g.S.Source.faults in
-    let input = change (left c.args.input.now) (left c.compile.new.input) (faults c.args.input.now) (faults c.compile.new.input) in
-    let out = change (g.O.Sink.taken c.args.out.now) (g.O.Sink.taken c.compile.new.out) (g.O.Sink.faults c.args.out.now) (g.O.Sink.faults c.compile.new.out) in
-    let err = change (g.E.Sink.taken c.args.err.now) (g.E.Sink.taken c.compile.new.err) (g.E.Sink.faults c.args.err.now) (g.E.Sink.faults c.compile.new.err) in
-    accepts input out err c.compile.result c.compile.ensures
+    let input = change (left c.args.input.now) (left c.perform.new.input) (faults c.args.input.now) (faults c.perform.new.input) in
+    let out = change (g.O.Sink.taken c.args.out.now) (g.O.Sink.taken c.perform.new.out) (g.O.Sink.faults c.args.out.now) (g.O.Sink.faults c.perform.new.out) in
+    let err = change (g.E.Sink.taken c.args.err.now) (g.E.Sink.taken c.perform.new.err) (g.E.Sink.faults c.args.err.now) (g.E.Sink.faults c.perform.new.err) in
+    accepts c.in-Some.command input out err c.perform.result c.perform.ensures
 
-pub returns-in-Some-Compile-clause-refused : goal.returns-in-Some-Compile-clause-refused
-returns-in-Some-Compile-clause-refused g c =
+pub returns-in-Some-clause-refused : goal.returns-in-Some-clause-refused
+returns-in-Some-clause-refused g c =
     let left = g.S.Source.left in
     let faults = g.S.Source.faults in
-    let input = change (left c.args.input.now) (left c.compile.new.input) (faults c.args.input.now) (faults c.compile.new.input) in
-    let out = change (g.O.Sink.taken c.args.out.now) (g.O.Sink.taken c.compile.new.out) (g.O.Sink.faults c.args.out.now) (g.O.Sink.faults c.compile.new.out) in
-    let err = change (g.E.Sink.taken c.args.err.now) (g.E.Sink.taken c.compile.new.err) (g.E.Sink.faults c.args.err.now) (g.E.Sink.faults c.compile.new.err) in
-    refuses input out err c.compile.result c.compile.ensures
+    let input = change (left c.args.input.now) (left c.perform.new.input) (faults c.args.input.now) (faults c.perform.new.input) in
+    let out = change (g.O.Sink.taken c.args.out.now) (g.O.Sink.taken c.perform.new.out) (g.O.Sink.faults c.args.out.now) (g.O.Sink.faults c.perform.new.out) in
+    let err = change (g.E.Sink.taken c.args.err.now) (g.E.Sink.taken c.perform.new.err) (g.E.Sink.faults c.args.err.now) (g.E.Sink.faults c.perform.new.err) in
+    refuses c.in-Some.command input out err c.perform.result c.perform.ensures
