@@ -21,3 +21,5 @@ pub mod KindLaws
 pub mod OneReading
 pub mod OneRun
 pub mod Sizes
+pub mod WrittenKinds
+pub mod Written

@@ -33,6 +33,11 @@ begins_cons p (c ∷ cs) b = (c, cs, refl, b)
 name_continues : (c : ℕ) → begins_name c ≡ true → continues_name c ≡ true
 name_continues c h = ap (λ x. x || is_ascii_digit c) h
 
+-- each character of a name goes on one
+pub name_all : (cs : List ℕ) → IsNameLike cs → list_all continues_name cs ≡ true
+name_all [] is = absurd is
+name_all (c ∷ cs) is = and_true (name_continues c is.0) is.1
+
 -- names and words
 module _ {text end : List ℕ} (begins : BeginsWith begins_name (chars text)) (skip : SkipsPassing continues_name text end) where
   first : (c : ℕ) × (ds : List ℕ) × (chars text ≡ c ∷ ds) × (begins_name c ≡ true)
@@ -44,10 +49,6 @@ module _ {text end : List ℕ} (begins : BeginsWith begins_name (chars text)) (s
       by_front : (front : List ℕ) → chars text ≡ front ++ chars end → list_all continues_name front ≡ true → 0 < length front → IsNameLike front
       by_front [] e each some = absurd (omega arith)
       by_front (f ∷ fs) e each some = (ap begins_name (sym (cons_head (sym first.2 ∙ e))) ∙ first.3, and_second (continues_name f) _ each)
-
-  name_all : (cs : List ℕ) → IsNameLike cs → list_all continues_name cs ≡ true
-  name_all [] is = absurd is
-  name_all (c ∷ cs) is = and_true (name_continues c is.0) is.1
 
   name_longest : (version : Bool) → IsLongest version (chars text) skip.front (chars end)
   name_longest version = record {

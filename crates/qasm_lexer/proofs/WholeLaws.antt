@@ -34,7 +34,7 @@ module _ {cs digits rest : List ℕ} (at : WholeAt cs digits rest) where
   no_minor_at other more major minor e v = point_stops rest _ at.no_point (version_place other more v.0 v.1 at.context v.3.each v.2 e).1
 
 -- digits may stand behind a digit
-digits_go_on : (base : ℕ) (cs : List ℕ) → list_all (is_digit_in base) cs ≡ true → goes_on base cs ≡ true
+pub digits_go_on : (base : ℕ) (cs : List ℕ) → list_all (is_digit_in base) cs ≡ true → goes_on base cs ≡ true
 digits_go_on base [] h = refl
 digits_go_on base (c ∷ []) h = and_first (is_digit_in base c) _ h
 digits_go_on base (c ∷ d ∷ cs) h =

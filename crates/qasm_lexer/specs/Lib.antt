@@ -4,3 +4,4 @@ pub mod Spelling
 pub mod Tokens
 pub mod Scan
 pub mod Sizes
+pub mod Pieces

@@ -1,6 +1,7 @@
-//! A law of tokens. No program calls this function; it has an empty body, and its contract is the law.
+//! Laws of tokens. No program calls these functions; each has an empty body, and its contract is the law.
 
-ghost use Rattle.std.specs.Prelude.{ℕ, List, Ok};
+ghost use Rattle.std.specs.Prelude.{ℕ, false, List, Ok};
+ghost use Rattle.qasm_lexer.specs.Pieces.{Piece, text_of, AreApart, AreWritten};
 ghost use Rattle.qasm_lexer.specs.Sizes.{AreBounded};
 ghost use Rattle.qasm_lexer.specs.Tokens.{Tokens};
 ghost use Rattle.qasm_lexer.specs.declared.token.Token.{Token};
@@ -9,4 +10,10 @@ ghost use Rattle.qasm_lexer.specs.declared.token.Token.{Token};
 /// a bit string at most 4,096 bits.
 pub fn tokens_are_bounded()
     ensures { (text : List ℕ) (tokens : List Token) → Tokens text (Ok tokens) → AreBounded text tokens }
+{}
+
+/// Tokens that are written one behind the other, each of which cannot go on with what stands behind it, are
+/// read as they are written.
+pub fn written_tokens_are_read()
+    ensures { (pieces : List Piece) → AreApart false pieces → (tokens : List Token) × Tokens (text_of pieces) (Ok tokens) × AreWritten (text_of pieces) tokens pieces }
 {}
