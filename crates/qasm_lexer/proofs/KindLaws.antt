@@ -1,17 +1,13 @@
 -- One spelling is of one kind.
-use Rattle.std.proofs.Common.{◌≡◌, ℕ, ◌+◌, ◌<◌, ◌≤◌, ◌⊎◌, Bool, true, false, ◌&&◌, ◌||◌, ◌==◌, List, [], ◌∷◌, ◌++◌, length, Option, None, Some, sym, refl, ap, ◌∙◌, subst, arith, inl, inr, ⊎_elim, length-append, append_assoc}
-use Rattle.std.specs.Prelude.{IsTrue}
+use Rattle.std.proofs.Common.{◌≡◌, ℕ, ◌⊎◌, Bool, true, List, [], ◌∷◌, ◌++◌, length, Option, None, Some, sym, refl, ap, ◌∙◌, subst, arith, inl, inr, ⊎_elim, length-append, append_assoc}
 use Rattle.std.specs.List.{list_all}
 use Rattle.std.specs.Str.Parse.{digits_value}
 use Rattle.std.proofs.lemmas.Bool.{false≢true}
 use Rattle.std.proofs.lemmas.List.{append-nil}
 use Rattle.qasm_lexer.specs.Characters.{is_digit_in, is_quote}
-use Rattle.qasm_lexer.specs.Tables.{word_spelling, mark_spelling}
-use Rattle.qasm_lexer.specs.Spelling.{Base, Decimal, radix, IsPrefix, is_numeral, IsNameLike, IsWord, IsWhole, IsVersion, IsDecimal, Spells, SpellsDecimal, AsToken, numeral_value}
-use Rattle.qasm_lexer.specs.declared.token.Keyword.{Keyword}
+use Rattle.qasm_lexer.specs.Spelling.{Decimal, radix, IsPrefix, is_numeral, IsNameLike, IsWhole, IsVersion, IsDecimal, Spells, SpellsDecimal, AsToken, numeral_value}
 use Rattle.qasm_lexer.specs.declared.token.TokenKind.{TokenKind}
 use Rattle.qasm_lexer.specs.declared.token.TokenKind.TheVariants.{Name, Word, Whole, Text, Version, Hardware, Mark as MarkKind}
-use Rattle.qasm_lexer.proofs.Cutting.{cons≢nil}
 use Rattle.qasm_lexer.proofs.Passing.{and_first, and_second}
 use Rattle.qasm_lexer.proofs.Numerals.{cons_head, cons_tail}
 use Rattle.qasm_lexer.proofs.Starts.{Start, AtLetter, AtDigit, AtPoint, AtQuote, AtDollar, AtMark, start_of, letter_start, digit_start, quote_start, dollar_start, point_start, mark_first, whole_first, version_first, word_is_name_like, decimal_start, spelled_some}

@@ -11,6 +11,7 @@ pub mod WholeLaws
 pub mod NumberSteps
 pub mod NumberFinds
 pub mod WholeFinds
+pub mod Longest
 pub mod PieceFinds
 pub mod Closing
 pub mod Places

@@ -1,32 +1,23 @@
 -- A text has one reading: one thing stands at each place, and one thing comes next.
-use Rattle.std.proofs.Common.{◌≡◌, ℕ, ◌+◌, ◌-◌, ◌<◌, ◌≤◌, ◌⊎◌, Bool, true, false, not, ◌&&◌, ◌||◌, ◌==◌, List, [], ◌∷◌, ◌++◌, length, take, drop, IsUtf8, Option, None, Some, Result, Ok, Err, sym, refl, ap, ◌∙◌, subst, arith, inl, inr, ⊎_elim, length-append, length-drop, append_assoc}
-use Rattle.std.specs.Prelude.{IsTrue}
+use Rattle.std.proofs.Common.{◌≡◌, ℕ, ◌⊎◌, Bool, true, false, not, ◌&&◌, ◌==◌, List, [], ◌∷◌, ◌++◌, length, sym, refl, ap, ◌∙◌, subst, arith, inl, inr, ⊎_elim, append_assoc}
 use Rattle.std.specs.List.{list_all}
-use Rattle.std.specs.Str.{chars, IsCharBoundary, IsValidUpTo}
-use lib.Utf8.{encodes}
 use Rattle.std.proofs.lemmas.Bool.{false≢true}
 use Rattle.std.proofs.lemmas.Bool.Decides.{Decides-eqb, nat_tests}
-use Rattle.std.proofs.lemmas.List.{append-nil, append_cancel_left}
-use Rattle.std.proofs.lemmas.Str.{encodes-chars, IsUtf8-drop, chars-nil, IsCharBoundary-start, IsCharBoundary-end}
-use Rattle.std.proofs.str.Laws.{order}
 use Rattle.qq_base.specs.declared.rule.Rule.{Rule}
-use Rattle.qq_base.specs.declared.rule.Rule.TheVariants.{NotUtf8, BadCharacter, OpenComment, OpenString, LiteralRange, FloatLiteral}
-use Rattle.qq_base.specs.declared.refusal.Refusal.{Refusal}
+use Rattle.qq_base.specs.declared.rule.Rule.TheVariants.{BadCharacter, OpenComment, OpenString, LiteralRange, FloatLiteral}
 use Rattle.qasm_lexer.specs.Characters.{is_blank, is_quote, ends_line, is_digit_in}
-use Rattle.qasm_lexer.specs.Spelling.{IsQuoted, Spells, SpellsDecimal, IsSpelled, AsToken, AsDecimal, IsTooLarge}
+use Rattle.qasm_lexer.specs.Spelling.{Spells, SpellsDecimal, IsSpelled, AsToken, AsDecimal, IsTooLarge}
 use Rattle.qasm_lexer.specs.Scan.{StopsAt, passes}
-use Rattle.qasm_lexer.specs.Tokens.{IsGap, Blank, LineComment, BlockComment, Skips, has_close, rest_from, BeginsComment, BeginsWith, IsLongest, IsToken, IsRefused, Stands, IsNext, Reads, Tokens}
+use Rattle.qasm_lexer.specs.Tokens.{BeginsComment, BeginsWith, IsLongest, IsRefused}
 use Rattle.qasm_lexer.specs.declared.scan.Class.TheVariants.{InText}
 use Rattle.qasm_lexer.specs.declared.token.TokenKind.{TokenKind}
 use Rattle.qasm_lexer.specs.declared.token.TokenKind.TheVariants.{Name, Word, Whole, Text, Version, Hardware, Mark as MarkKind}
-use Rattle.qasm_lexer.specs.declared.token.Token.{Token}
 use Rattle.qasm_lexer.specs.declared.token.Mark.{Mark}
 use Rattle.qasm_lexer.specs.Tables.{mark_spelling}
 use Rattle.qasm_lexer.specs.declared.token.Mark.TheVariants.{Semicolon, Comma, LeftParen, RightParen, LeftBracket, RightBracket, LeftBrace, RightBrace, At, Hash, Colon, Assign, Arrow, Plus, PlusPlus, Minus, Star, StarStar, Slash, Percent, Tilde, Bang, Ampersand, AndAnd, Pipe, OrOr, Caret, ShiftLeft, ShiftRight, Less, LessEqual, Greater, GreaterEqual, Equal, NotEqual, PlusAssign, MinusAssign, StarAssign, SlashAssign, PercentAssign, AndAssign, OrAssign, CaretAssign, ShiftLeftAssign, ShiftRightAssign}
 use Rattle.qasm_lexer.proofs.Cutting.{cons≢nil}
-use Rattle.qasm_lexer.proofs.Passing.{and_first, and_second}
 use Rattle.qasm_lexer.proofs.Numerals.{cons_head, cons_tail}
-use Rattle.qasm_lexer.proofs.Starts.{Start, AtLetter, AtDigit, AtPoint, AtQuote, AtDollar, AtMark, start_of, quote_cases, quote_start, spelled_some, spelled_at, digit_range, decimal_start, digit_start, point_start}
+use Rattle.qasm_lexer.proofs.Starts.{Start, AtQuote, AtMark, start_of, quote_cases, quote_start, spelled_some, spelled_at, digit_range, decimal_start}
 use Rattle.qasm_lexer.proofs.Fronts.{run_unique}
 use Rattle.qasm_lexer.proofs.KindLaws.{start_kind, kind_start, kinds_same, kind_no_decimal}
 

@@ -1,7 +1,5 @@
 -- A text has one reading: one list of gaps at each place, one thing behind them, and one run.
-use Rattle.std.proofs.Common.{◌≡◌, ℕ, ◌+◌, ◌-◌, ◌<◌, ◌≤◌, ◌⊎◌, Bool, true, false, not, ◌&&◌, ◌||◌, ◌==◌, List, [], ◌∷◌, ◌++◌, length, take, drop, IsUtf8, Option, None, Some, Result, Ok, Err, sym, refl, ap, ◌∙◌, subst, arith, inl, inr, ⊎_elim, length-append, length-drop, append_assoc}
-use Rattle.std.specs.Prelude.{IsTrue}
-use Rattle.std.specs.List.{list_all}
+use Rattle.std.proofs.Common.{◌≡◌, ℕ, ◌<◌, ◌≤◌, ◌⊎◌, Bool, true, false, not, ◌&&◌, ◌||◌, ◌==◌, List, [], ◌∷◌, ◌++◌, length, drop, IsUtf8, Option, None, Some, Result, Ok, Err, sym, refl, ap, ◌∙◌, subst, arith, inl, inr, ⊎_elim, length-drop, append_assoc}
 use Rattle.std.specs.Str.{chars, IsCharBoundary, IsValidUpTo}
 use lib.Utf8.{encodes}
 use Rattle.std.proofs.lemmas.Bool.{false≢true}
@@ -17,7 +15,7 @@ use Rattle.qq_base.specs.declared.refusal.Fault.TheVariants.{Memory, Refused}
 use Rattle.std.specs.declared.alloc.Global.{Global}
 use Rattle.std.specs.declared.vec.Vec.{Vec}
 use Rattle.qasm_lexer.specs.Characters.{is_blank, is_quote, ends_line}
-use Rattle.qasm_lexer.specs.Spelling.{Spells, IsSpelled, AsToken, AsDecimal, IsTooLarge}
+use Rattle.qasm_lexer.specs.Spelling.{Spells, IsSpelled, AsToken, AsDecimal}
 use Rattle.qasm_lexer.specs.Scan.{StopsAt}
 use Rattle.qasm_lexer.specs.Tokens.{IsGap, Blank, LineComment, BlockComment, Skips, has_close, rest_from, spelling_of, place_of, BeginsComment, BeginsWith, IsLongest, IsToken, IsRefused, Stands, IsNext, Reads, Tokens, Gives, IsAnswer, opens_version}
 use Rattle.qasm_lexer.specs.declared.token.TokenKind.{TokenKind}

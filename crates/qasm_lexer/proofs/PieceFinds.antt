@@ -1,11 +1,10 @@
 -- What the scanners of names, texts and marks find.
-use Rattle.std.proofs.Common.{◌≡◌, ℕ, ◌<◌, ◌≤◌, ◌⊎◌, Bool, true, false, not, ◌&&◌, ◌||◌, ◌==◌, cond, List, [], ◌∷◌, ◌++◌, length, sym, refl, ap, ◌∙◌, subst, arith, inl, inr, length-append, append_assoc}
+use Rattle.std.proofs.Common.{◌≡◌, ℕ, ◌<◌, ◌≤◌, ◌⊎◌, Bool, true, false, not, ◌&&◌, ◌||◌, ◌==◌, cond, List, [], ◌∷◌, ◌++◌, length, sym, refl, ap, ◌∙◌, subst, arith, inl, inr}
 use Rattle.std.specs.Prelude.{IsTrue}
 use Rattle.std.specs.List.{list_all}
-use Rattle.std.specs.Char.{is_ascii_digit}
 use Rattle.std.specs.Str.{chars}
 use Rattle.std.proofs.lemmas.Bool.{false≢true}
-use Rattle.std.proofs.lemmas.Bool.Decides.{nat_tests, Decides-eqb}
+use Rattle.std.proofs.lemmas.Bool.Decides.{nat_tests}
 use Rattle.std.proofs.lemmas.List.{append_cancel_right}
 use Rattle.qq_base.specs.declared.rule.Rule.TheVariants.{BadCharacter, LiteralRange, OpenString}
 use Rattle.qasm_lexer.specs.Characters.{is_digit_in, is_quote, ends_line, begins_name, continues_name}
@@ -18,10 +17,10 @@ use Rattle.qasm_lexer.specs.declared.token.Keyword.{Keyword}
 use Rattle.qasm_lexer.specs.declared.token.Mark.{Mark}
 use Rattle.qasm_lexer.specs.declared.token.TokenKind.TheVariants.{Name, Word, Text, Mark as MarkKind}
 use Rattle.qasm_lexer.proofs.Cutting.{chars_cut, cut_twice}
-use Rattle.qasm_lexer.proofs.Passing.{and_second, and_true}
+use Rattle.qasm_lexer.proofs.Passing.{and_second}
 use Rattle.qasm_lexer.proofs.Numerals.{cons_head, cons_tail}
-use Rattle.qasm_lexer.proofs.Starts.{start_of, AtLetter, AtDigit, AtPoint, AtQuote, AtDollar, AtMark, letter_start, quote_start, spelled_at}
-use Rattle.qasm_lexer.proofs.Fronts.{run_longest, run_unique}
+use Rattle.qasm_lexer.proofs.Starts.{start_of, AtLetter, AtDigit, AtPoint, AtQuote, AtDollar, AtMark, spelled_at}
+use Rattle.qasm_lexer.proofs.Longest.{name_continues, name_longest, text_longest}
 use Rattle.qasm_lexer.proofs.NumberSteps.{front_chars}
 use Rattle.qasm_lexer.proofs.NumberFinds.{Found, front_some}
 
@@ -29,14 +28,6 @@ use Rattle.qasm_lexer.proofs.NumberFinds.{Found, front_some}
 pub begins_cons : (p : ℕ → Bool) (cs : List ℕ) → BeginsWith p cs → (c : ℕ) × (ds : List ℕ) × (cs ≡ c ∷ ds) × (p c ≡ true)
 begins_cons p [] b = absurd b
 begins_cons p (c ∷ cs) b = (c, cs, refl, b)
-
-name_continues : (c : ℕ) → begins_name c ≡ true → continues_name c ≡ true
-name_continues c h = ap (λ x. x || is_ascii_digit c) h
-
--- each character of a name goes on one
-pub name_all : (cs : List ℕ) → IsNameLike cs → list_all continues_name cs ≡ true
-name_all [] is = absurd is
-name_all (c ∷ cs) is = and_true (name_continues c is.0) is.1
 
 -- names and words
 module _ {text end : List ℕ} (begins : BeginsWith begins_name (chars text)) (skip : SkipsPassing continues_name text end) where
@@ -50,28 +41,23 @@ module _ {text end : List ℕ} (begins : BeginsWith begins_name (chars text)) (s
       by_front [] e each some = absurd (omega arith)
       by_front (f ∷ fs) e each some = (ap begins_name (sym (cons_head (sym first.2 ∙ e))) ∙ first.3, and_second (continues_name f) _ each)
 
-  name_longest : (version : Bool) → IsLongest version (chars text) skip.front (chars end)
-  name_longest version = record {
-    split = chars_cut skip.cuts;
-    longest = λ other more e s.
-        let is = spelled_at AtLetter version first.0 first.1 other more (letter_start first.0 first.3) (sym first.2 ∙ e) s in
-        run_longest continues_name skip.front (chars end) other more (sym (chars_cut skip.cuts) ∙ e) skip.stops (name_all other is);
-  }
+  longest_here : (version : Bool) → IsLongest version (chars text) skip.front (chars end)
+  longest_here version = subst (λ x. IsLongest version x skip.front (chars end)) (sym (chars_cut skip.cuts)) (name_longest version skip.front (chars end) name_like skip.stops)
 
   pub word_found : (version : Bool) (word : Keyword) (bytes : List ℕ) → text ≡ bytes ++ end → chars bytes ≡ word_spelling word → Found version text (Word word) end
-  word_found version word bytes e is = (skip.front, skip.cuts, sym (front_chars bytes skip.cuts e) ∙ is, name_longest version, λ large. large)
+  word_found version word bytes e is = (skip.front, skip.cuts, sym (front_chars bytes skip.cuts e) ∙ is, longest_here version, λ large. large)
 
   no_word_is : (bytes : List ℕ) → text ≡ bytes ++ end → ((word : Keyword) → ¬ (chars bytes ≡ word_spelling word)) → ¬ (IsWord skip.front)
   no_word_is bytes e none is = none is.0 (front_chars bytes skip.cuts e ∙ is.1)
 
   pub name_found : (version : Bool) (bytes : List ℕ) (n : ℕ) → text ≡ bytes ++ end → ((word : Keyword) → ¬ (chars bytes ≡ word_spelling word)) → n ≡ length (chars bytes) → n ≤ 1024 → Found version text Name end
   name_found version bytes n e none count short =
-      (skip.front, skip.cuts, (name_like, no_word_is bytes e none), name_longest version, λ large. omega (arith, large, count, ap length (front_chars bytes skip.cuts e)))
+      (skip.front, skip.cuts, (name_like, no_word_is bytes e none), longest_here version, λ large. omega (arith, large, count, ap length (front_chars bytes skip.cuts e)))
 
   pub name_too_long : (version : Bool) (bytes : List ℕ) (n : ℕ) → text ≡ bytes ++ end → ((word : Keyword) → ¬ (chars bytes ≡ word_spelling word)) → n ≡ length (chars bytes) → 1024 < n → IsRefused version (chars text) LiteralRange
   name_too_long version bytes n e none count long =
       let large : 1024 < length skip.front = omega (arith, count, ap length (front_chars bytes skip.cuts e)) in
-      (skip.front, chars end, Name, name_longest version, (name_like, no_word_is bytes e none), large)
+      (skip.front, chars end, Name, longest_here version, (name_like, no_word_is bytes e none), large)
 
 -- texts
 module _ {text inside close : List ℕ} {quote : ℕ} (quotes : is_quote quote ≡ true) (cut : Cuts text (quote ∷ []) inside) (skip : SkipsPassing (passes (InText quote)) inside close) where
@@ -90,9 +76,6 @@ module _ {text inside close : List ℕ} {quote : ℕ} (quotes : is_quote quote �
       at_end [] h k = inl refl
       at_end (c ∷ cs) h k = inr (ends (c == quote) (ends_line c) h k)
 
-  quote_stops : StopsAt (passes (InText quote)) (quote ∷ [])
-  quote_stops = ap (λ b. not b && not (ends_line quote)) ((Decides-eqb quote quote).1 refl)
-
   module _ {end : List ℕ} (shut : Cuts close (quote ∷ []) end) where
     text_cut : Cuts text (quote ∷ skip.front ++ quote ∷ []) end
     text_cut = cut_twice cut (cut_twice skip.cuts shut)
@@ -100,23 +83,11 @@ module _ {text inside close : List ℕ} {quote : ℕ} (quotes : is_quote quote �
     text_is : IsQuoted (quote ∷ skip.front ++ quote ∷ []) quote skip.front
     text_is = record { split = refl; quotes = quotes; closed = skip.each }
 
-    text_longest : (version : Bool) → IsLongest version (chars text) (quote ∷ skip.front ++ quote ∷ []) (chars end)
-    text_longest version = record {
-      split = chars_cut text_cut;
-      longest = λ other more e s. bound version other more e s;
-    }
-      where
-        bound : (version : Bool) (other more : List ℕ) → chars text ≡ other ++ more → IsSpelled version other → length other ≤ length (quote ∷ skip.front ++ quote ∷ [])
-        bound version other more e s =
-            let is = spelled_at AtQuote version quote (skip.front ++ chars close) other more (quote_start quote quotes) (sym text_split ∙ e) s in
-            let tails = sym text_split ∙ e ∙ ap (λ x. x ++ more) is.2.split in
-            let q : is.0 ≡ quote = sym (cons_head tails) in
-            let both : skip.front ++ chars close ≡ is.1 ++ (quote ∷ more) = cons_tail tails ∙ append_assoc is.1 (is.0 ∷ []) more ∙ ap (λ x. is.1 ++ x ∷ more) q in
-            let same = run_unique (passes (InText quote)) skip.front (chars close) is.1 (quote ∷ more) both skip.stops quote_stops skip.each (ap (λ x. list_all (passes (InText x)) is.1) (sym q) ∙ is.2.closed) in
-            omega (arith, ap length same.0, ap length is.2.split, length-append is.1 (is.0 ∷ []), length-append skip.front (quote ∷ []))
+    quoted_longest : (version : Bool) → IsLongest version (chars text) (quote ∷ skip.front ++ quote ∷ []) (chars end)
+    quoted_longest version = subst (λ x. IsLongest version x (quote ∷ skip.front ++ quote ∷ []) (chars end)) (sym (chars_cut text_cut)) (text_longest version (quote ∷ skip.front ++ quote ∷ []) (chars end) quote skip.front text_is)
 
     pub text_found : (version : Bool) → ((quote ≡ 34) → ¬ (IsTrue (is_numeral 2 skip.front) × (4096 < length (digits_of_numeral 2 skip.front)))) → Found version text Text end
-    text_found version why = (quote ∷ skip.front ++ quote ∷ [], text_cut, (quote, skip.front, text_is), text_longest version, not_large)
+    text_found version why = (quote ∷ skip.front ++ quote ∷ [], text_cut, (quote, skip.front, text_is), quoted_longest version, not_large)
       where
         not_large : ¬ (IsTooLarge (quote ∷ skip.front ++ quote ∷ []) Text)
         not_large large =
@@ -126,7 +97,7 @@ module _ {text inside close : List ℕ} {quote : ℕ} (quotes : is_quote quote �
 
     pub text_too_long : (version : Bool) → quote ≡ 34 → IsTrue (is_numeral 2 skip.front) × (4096 < length (digits_of_numeral 2 skip.front)) → IsRefused version (chars text) LiteralRange
     text_too_long version q bits =
-        (quote ∷ skip.front ++ quote ∷ [], chars end, Text, text_longest version, (quote, skip.front, text_is), (skip.front, record { split = ap (λ x. x ∷ skip.front ++ x ∷ []) q; bits = bits.0 }, bits.1))
+        (quote ∷ skip.front ++ quote ∷ [], chars end, Text, quoted_longest version, (quote, skip.front, text_is), (skip.front, record { split = ap (λ x. x ∷ skip.front ++ x ∷ []) q; bits = bits.0 }, bits.1))
 
 -- the bits of a text are those of what is cut off
 pub bits_of : (quote : ℕ) {inside close : List ℕ} (skip : SkipsPassing (passes (InText quote)) inside close) (bytes : List ℕ) → inside ≡ bytes ++ close → IsTrue (is_numeral 2 (chars bytes)) × (4096 < length (digits_of_numeral 2 (chars bytes))) → IsTrue (is_numeral 2 skip.front) × (4096 < length (digits_of_numeral 2 skip.front))

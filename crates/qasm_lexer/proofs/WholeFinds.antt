@@ -1,5 +1,5 @@
 -- What the scanners of whole numbers, versions without a point and hardware qubits find.
-use Rattle.std.proofs.Common.{◌≡◌, ℕ, ◌+◌, ◌-◌, ◌<◌, ◌≤◌, ◌^◌, ◌⊎◌, Bool, true, false, ◌||◌, ◌==◌, List, [], ◌∷◌, ◌++◌, length, None, sym, refl, ap, ◌∙◌, arith, inl, inr, length-append}
+use Rattle.std.proofs.Common.{◌≡◌, ℕ, ◌+◌, ◌-◌, ◌<◌, ◌≤◌, ◌^◌, ◌⊎◌, Bool, true, false, ◌||◌, ◌==◌, List, [], ◌∷◌, ◌++◌, length, None, sym, refl, ap, ◌∙◌, subst, arith, inl, inr, length-append}
 use Rattle.std.specs.Prelude.{IsTrue}
 use Rattle.std.specs.List.{list_all}
 use Rattle.std.specs.Str.{chars}
@@ -18,6 +18,7 @@ use Rattle.qasm_lexer.proofs.Cutting.{chars_cut, cut_twice}
 use Rattle.qasm_lexer.proofs.Numerals.{cons_head, cons_tail}
 use Rattle.qasm_lexer.proofs.Starts.{AtDollar, spelled_at}
 use Rattle.qasm_lexer.proofs.Fronts.{run_longest}
+use Rattle.qasm_lexer.proofs.Longest.{dollar_bound, dollar_longest}
 use Rattle.qasm_lexer.proofs.WholeLaws.{WholeAt, BasedAt, based_longest, based_is_whole, based_no_version, NumeralAt, numeral_longest, numeral_is_whole, numeral_no_version}
 use Rattle.qasm_lexer.proofs.NumberSteps.{front_chars}
 use Rattle.qasm_lexer.proofs.NumberFinds.{Found, digits_then, digits_number}
@@ -153,25 +154,22 @@ module _ {text digits end : List ℕ} (cut : Cuts text (36 ∷ []) digits) (skip
   dollar_split : chars text ≡ 36 ∷ (skip.front ++ chars end)
   dollar_split = chars_cut cut ∙ ap (λ x. 36 ∷ x) (chars_cut skip.cuts)
 
-  dollar_bound : (version : Bool) (other more : List ℕ) → chars text ≡ other ++ more → IsSpelled version other → length other ≤ length skip.front + 1
-  dollar_bound version other more e s =
-      let h = spelled_at AtDollar version 36 (skip.front ++ chars end) other more refl (sym dollar_split ∙ e) s in
-      let short = run_longest (is_digit_in 10) skip.front (chars end) h.1.0 more (cons_tail (sym dollar_split ∙ e ∙ ap (λ x. x ++ more) h.1.1)) skip.stops h.1.2.each in
-      omega (arith, short, ap length h.1.1)
+  bound_here : (version : Bool) (other more : List ℕ) → chars text ≡ other ++ more → IsSpelled version other → length other ≤ length skip.front + 1
+  bound_here version other more e s = dollar_bound version skip.front (chars end) skip.stops other more (sym dollar_split ∙ e) s
 
-  dollar_longest : (version : Bool) → IsLongest version (chars text) (36 ∷ skip.front) (chars end)
-  dollar_longest version = record { split = dollar_split; longest = λ other more e s. let bound = dollar_bound version other more e s in omega (arith, bound) }
+  longest_here : (version : Bool) → IsLongest version (chars text) (36 ∷ skip.front) (chars end)
+  longest_here version = subst (λ x. IsLongest version x (36 ∷ skip.front) (chars end)) (sym dollar_split) (dollar_longest version skip.front (chars end) skip.stops)
 
   dollar_value : (bytes : List ℕ) → digits ≡ bytes ++ end → numeral_value 10 (chars bytes) ≡ digits_value 10 skip.front
   dollar_value bytes e = ap (numeral_value 10) (front_chars bytes skip.cuts e) ∙ digits_number skip.front skip.each
 
   pub hardware_found : (version : Bool) (number : ℕ) (bytes : List ℕ) → 0 < length skip.front → digits ≡ bytes ++ end → (numeral_value 10 (chars bytes) < 2 ^ 32) × (number ≡ numeral_value 10 (chars bytes)) → Found version text (Hardware number) end
   hardware_found version number bytes some e h =
-      (36 ∷ skip.front, cut_twice cut skip.cuts, (skip.front, refl, record { some = some; each = skip.each }, h.1 ∙ dollar_value bytes e), dollar_longest version, λ large. omega (arith, h.0, h.1))
+      (36 ∷ skip.front, cut_twice cut skip.cuts, (skip.front, refl, record { some = some; each = skip.each }, h.1 ∙ dollar_value bytes e), longest_here version, λ large. omega (arith, h.0, h.1))
 
   pub hardware_too_large : (version : Bool) (bytes : List ℕ) → 0 < length skip.front → digits ≡ bytes ++ end → ¬ (numeral_value 10 (chars bytes) < 2 ^ 32) → IsRefused version (chars text) LiteralRange
   hardware_too_large version bytes some e h =
-      (36 ∷ skip.front, chars end, Hardware (digits_value 10 skip.front), dollar_longest version, (skip.front, refl, record { some = some; each = skip.each }, refl), passes_bound _ _ h (dollar_value bytes e))
+      (36 ∷ skip.front, chars end, Hardware (digits_value 10 skip.front), longest_here version, (skip.front, refl, record { some = some; each = skip.each }, refl), passes_bound _ _ h (dollar_value bytes e))
     where
       passes_bound : (v w : ℕ) → ¬ (v < 2 ^ 32) → v ≡ w → 2 ^ 32 - 1 < w
       passes_bound v w h e = omega arith
@@ -185,6 +183,6 @@ module _ {text digits end : List ℕ} (cut : Cuts text (36 ∷ []) digits) (skip
     refl,
     λ other more e s.
         let h = spelled_at AtDollar version 36 (skip.front ++ chars end) other more refl (sym dollar_split ∙ e) s in
-        let short = dollar_bound version other more e s in
+        let short = bound_here version other more e s in
         omega (arith, short, ap length h.1.1, h.1.2.some, ap length none),
   )

@@ -1,17 +1,16 @@
 -- What is written and cannot go on with what stands behind it is the longest spelling there.
-use Rattle.std.proofs.Common.{◌≡◌, ℕ, ◌<◌, ◌≤◌, ◌⊎◌, Bool, true, false, ◌&&◌, ◌||◌, ◌==◌, List, [], ◌∷◌, ◌++◌, length, Option, None, Some, sym, refl, ap, ◌∙◌, subst, arith, inl, inr, ⊎_elim, length-append, append_assoc, not}
+use Rattle.std.proofs.Common.{◌≡◌, ℕ, ◌<◌, ◌≤◌, ◌⊎◌, Bool, true, false, ◌&&◌, ◌||◌, ◌==◌, List, [], ◌∷◌, ◌++◌, length, Option, None, Some, sym, refl, ap, ◌∙◌, subst, arith, inl, inr, ⊎_elim, append_assoc}
 use Rattle.std.specs.List.{list_all}
 use Rattle.std.specs.Char.{is_ascii_digit}
 use Rattle.std.proofs.lemmas.Bool.{false≢true}
-use Rattle.std.proofs.lemmas.Bool.Decides.{nat_tests, Decides-eqb}
+use Rattle.std.proofs.lemmas.Bool.Decides.{nat_tests}
 use Rattle.std.proofs.lemmas.List.{append-nil}
-use Rattle.qasm_lexer.specs.Characters.{ends_line, is_digit_in, begins_name, continues_name}
+use Rattle.qasm_lexer.specs.Characters.{is_digit_in, begins_name, continues_name}
 use Rattle.qasm_lexer.specs.Tables.{mark_spelling}
-use Rattle.qasm_lexer.specs.Spelling.{Base, Binary, Octal, Decimal, Hexadecimal, IsPrefix, IsNameLike, AreDigits, IsVersion, IsHardware, IsQuoted, Spells, IsSpelled, AsToken}
-use Rattle.qasm_lexer.specs.Scan.{StopsAt, BeginsExponent, NoBased, begins_step, passes}
+use Rattle.qasm_lexer.specs.Spelling.{Base, Binary, Octal, Decimal, Hexadecimal, IsPrefix, IsNameLike, AreDigits, IsVersion, Spells, IsSpelled, AsToken}
+use Rattle.qasm_lexer.specs.Scan.{StopsAt, BeginsExponent, NoBased, begins_step}
 use Rattle.qasm_lexer.specs.Tokens.{BeginsComment, IsLongest}
 use Rattle.qasm_lexer.specs.Pieces.{continues_mark, EndsBefore, IsPlain}
-use Rattle.qasm_lexer.specs.declared.scan.Class.TheVariants.{InText}
 use Rattle.qasm_lexer.specs.declared.token.TokenKind.{TokenKind}
 use Rattle.qasm_lexer.specs.declared.token.TokenKind.TheVariants.{Name, Word, Whole, Text, Version, Hardware, Mark as MarkKind}
 use Rattle.qasm_lexer.specs.declared.token.Mark.{Mark}
@@ -19,22 +18,12 @@ use Rattle.qasm_lexer.specs.declared.token.Mark.TheVariants.{Semicolon, Comma, L
 use Rattle.qasm_lexer.proofs.Cutting.{cons≢nil}
 use Rattle.qasm_lexer.proofs.Passing.{and_first, and_second}
 use Rattle.qasm_lexer.proofs.Numerals.{cons_head, cons_tail, either, no_step_here}
-use Rattle.qasm_lexer.proofs.Starts.{AtLetter, AtQuote, AtDollar, AtMark, start_of, letter_start, quote_start, mark_first, digit_range, word_is_name_like, spelled_some, spelled_at}
+use Rattle.qasm_lexer.proofs.Starts.{AtMark, start_of, mark_first, digit_range, word_is_name_like, spelled_some, spelled_at}
 use Rattle.qasm_lexer.proofs.Fronts.{run_longest}
 use Rattle.qasm_lexer.proofs.DecimalLaws.{Plain, PointAt, point_longest}
 use Rattle.qasm_lexer.proofs.WholeLaws.{WholeAt, NumeralAt, numeral_longest, digits_go_on}
-use Rattle.qasm_lexer.proofs.PieceFinds.{name_all}
+use Rattle.qasm_lexer.proofs.Longest.{name_longest, text_longest, dollar_longest}
 use Rattle.qasm_lexer.proofs.KindLaws.{start_kind, kind_start}
-
--- names and words
-name_longest : (version : Bool) (cs behind : List ℕ) → IsNameLike cs → StopsAt continues_name behind → IsLongest version (cs ++ behind) cs behind
-name_longest version [] behind is stops = absurd is
-name_longest version (c ∷ cs) behind is stops = record {
-  split = refl;
-  longest = λ other more e s.
-      let like = spelled_at AtLetter version c (cs ++ behind) other more (letter_start c is.0) e s in
-      run_longest continues_name (c ∷ cs) behind other more e stops (name_all other like);
-}
 
 -- what stops at more, stops here
 stops_too : (p q : ℕ → Bool) → ((c : ℕ) → q c ≡ true → p c ≡ true) → (cs : List ℕ) → StopsAt p cs → StopsAt q cs
@@ -140,34 +129,6 @@ module _ (behind : List ℕ) (stops : StopsAt (λ c. continues_name c || (c == 4
   version_longest version cs major (Some minor) is =
       subst (λ x. IsLongest version (x ++ behind) x behind) (sym is.2) (pointed_longest version is.0 is.1 is.3 is.4)
 
--- hardware qubits
-hardware_longest : (version : Bool) (cs behind : List ℕ) (number : ℕ) → IsHardware cs number → StopsAt (is_digit_in 10) behind → IsLongest version (cs ++ behind) cs behind
-hardware_longest version cs behind number is stops =
-    subst (λ x. IsLongest version (x ++ behind) x behind) (sym is.1) (record { split = refl; longest = λ other more e s. bound other more e s })
-  where
-    bound : (other more : List ℕ) → 36 ∷ is.0 ++ behind ≡ other ++ more → IsSpelled version other → length other ≤ length (36 ∷ is.0)
-    bound other more e s =
-        let h = spelled_at AtDollar version 36 (is.0 ++ behind) other more refl e s in
-        let short = run_longest (is_digit_in 10) is.0 behind h.1.0 more (cons_tail (e ∙ ap (λ x. x ++ more) h.1.1)) stops h.1.2.each in
-        omega (arith, short, ap length h.1.1)
-
--- texts
-text_longest : (version : Bool) (cs behind : List ℕ) (quote : ℕ) (body : List ℕ) → IsQuoted cs quote body → IsLongest version (cs ++ behind) cs behind
-text_longest version cs behind quote body is =
-    subst (λ x. IsLongest version (x ++ behind) x behind) (sym is.split) (record { split = refl; longest = λ other more e s. bound other more e s })
-  where
-    quote_stops : StopsAt (passes (InText quote)) (quote ∷ behind)
-    quote_stops = ap (λ b. not b && not (ends_line quote)) ((Decides-eqb quote quote).1 refl)
-
-    bound : (other more : List ℕ) → (quote ∷ body ++ quote ∷ []) ++ behind ≡ other ++ more → IsSpelled version other → length other ≤ length (quote ∷ body ++ quote ∷ [])
-    bound other more e s =
-        let h = spelled_at AtQuote version quote ((body ++ quote ∷ []) ++ behind) other more (quote_start quote is.quotes) e s in
-        let tails = e ∙ ap (λ x. x ++ more) h.2.split in
-        let q : h.0 ≡ quote = sym (cons_head tails) in
-        let both : body ++ (quote ∷ behind) ≡ h.1 ++ (quote ∷ more) = sym (append_assoc body (quote ∷ []) behind) ∙ cons_tail tails ∙ append_assoc h.1 (h.0 ∷ []) more ∙ ap (λ x. h.1 ++ x ∷ more) q in
-        let short = run_longest (passes (InText quote)) body (quote ∷ behind) h.1 (quote ∷ more) both quote_stops (ap (λ x. list_all (passes (InText x)) h.1) (sym q) ∙ h.2.closed) in
-        omega (arith, short, ap length h.2.split, length-append h.1 (h.0 ∷ []), length-append body (quote ∷ []))
-
 -- marks
 abbrev behind_first : List ℕ → List ℕ
 behind_first [] = []
@@ -250,7 +211,7 @@ piece_longest version cs behind (Word word) s plain ends = name_longest version 
 piece_longest version cs behind (Whole value) s plain ends = digits_longest behind ends version cs plain
 piece_longest version cs behind Text s plain ends = text_longest version cs behind s.0 s.1 s.2
 piece_longest version cs behind (Version major minor) s plain ends = version_longest behind ends version cs major minor s.1
-piece_longest version cs behind (Hardware number) s plain ends = hardware_longest version cs behind number s ends
+piece_longest version cs behind (Hardware number) s plain ends = subst (λ x. IsLongest version (x ++ behind) x behind) (sym s.1) (dollar_longest version s.0 behind ends)
 piece_longest version cs behind (MarkKind mark) s plain ends = mark_longest version cs behind mark s ends
 
 -- no comment begins with a mark

@@ -1,10 +1,16 @@
 //! Laws of tokens. No program calls these functions; each has an empty body, and its contract is the law.
 
-ghost use Rattle.std.specs.Prelude.{ℕ, false, List, Ok};
+ghost use Rattle.std.specs.Prelude.{◌≡◌, ℕ, false, List, Result, Ok};
+ghost use Rattle.qq_base.specs.declared.refusal.Refusal.{Refusal};
 ghost use Rattle.qasm_lexer.specs.Pieces.{Piece, text_of, AreApart, AreWritten};
 ghost use Rattle.qasm_lexer.specs.Sizes.{AreBounded};
 ghost use Rattle.qasm_lexer.specs.Tokens.{Tokens};
 ghost use Rattle.qasm_lexer.specs.declared.token.Token.{Token};
+
+/// A text has one reading: its tokens, or its first refusal.
+pub fn texts_have_one_reading()
+    ensures { (bytes : List ℕ) (a b : Result (List Token) Refusal) → Tokens bytes a → Tokens bytes b → a ≡ b }
+{}
 
 /// The tokens of a text are no more than its bytes and stand within it. A name has at most 4,096 bytes, and
 /// a bit string at most 4,096 bits.
