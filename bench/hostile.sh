@@ -1,7 +1,7 @@
 #!/usr/bin/env bash
-# Times `check` on texts of one, two and four MiB that repeat one piece: brackets that never close, statements,
-# long lists, and 64 levels over and over. Twice the text should take about twice the time. It is a benchmark
-# and no part of the gate.
+# Times `check` on texts of one, two and four MiB that repeat one piece: brackets that never close or never open,
+# statements, long lists, and 64 levels of each construct over and over. Twice the text should take about twice
+# the time. It is a benchmark and no part of the gate.
 set -eu
 cd "$(dirname "$0")/.."
 make --no-print-directory build
@@ -38,6 +38,9 @@ row() {
 row '(' 'x=' '(' ''
 row '[' 'x=a' '[' ''
 row '{' 'if(1)' '{' ''
+row ')' 'x=1' ')' ''
+row ']' 'x=1' ']' ''
+row '}' 'x=1;' '}' ''
 row '-' 'x=' '-' ''
 row ';' '' ';' ''
 row 'if(1)' '' 'if(1)' ''
@@ -47,5 +50,16 @@ row 'barrier a,..' 'barrier a' ',a' ';'
 row 'f(1,..)' 'f(1' ',1' ');'
 row 'x[0][0]..' 'x' '[0]' '=1;'
 row '64 +1' '' "x=1$(times 64 '+1');" ''
-row '31 if(1){' '' "$(times 31 'if(1){')$(times 31 '}')" ''
-row '60 inv@' '' "$(times 60 'inv@')x q;" ''
+row '64 **1' '' "x=1$(times 64 '**1');" ''
+row '64 -' '' "x=$(times 64 '-')1;" ''
+row '64 (' '' "x=$(times 64 '(')1$(times 64 ')');" ''
+row '64 x[' '' "x=$(times 64 'x[')1$(times 64 ']');" ''
+row '32 x[{' '' "x=$(times 32 'x[{')1$(times 32 '}]');" ''
+row '64 f(' '' "x=$(times 64 'f(')1$(times 64 ')');" ''
+row '64 int[' '' "x=$(times 64 'int[')1$(times 64 '](1)');" ''
+row '64 if(1){' '' "$(times 64 'if(1){')$(times 64 '}')" ''
+row '64 while(1){' '' "$(times 64 'while(1){')$(times 64 '}')" ''
+row '64 for' '' "$(times 64 'for int i in{1}{')$(times 64 '}')" ''
+row '64 def' '' "$(times 64 'def f(){')$(times 64 '}')" ''
+row '64 inv@' '' "$(times 64 'inv@')x q;" ''
+row 'gate, 63 inv@' '' "gate g q{$(times 63 'inv@')x q;}" ''
