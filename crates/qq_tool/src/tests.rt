@@ -201,6 +201,10 @@ fn texts_are_refused_by_the_rules_of_tokens(rt: HostRuntime) -> Result<(), Fail>
         ("\"a'", "refused Q05 OpenString at 1:1\n"),
         ("$4294967296", "refused Q06 LiteralRange at 1:1\n"),
         ("rz(0.5*pi) q;", "refused Q07 FloatLiteral at 1:4\n"),
+        (
+            "include \"stdgates.inc\";\nqubit q; rz(0.5*pi) q;",
+            "refused Q07 FloatLiteral at 2:13\n",
+        ),
         // A fault of the tokens comes before one of the program.
         ("int x = ;\n?", "refused Q03 BadCharacter at 2:1\n"),
     ] {
@@ -237,6 +241,20 @@ fn texts_are_refused_by_the_rules_of_programs(rt: HostRuntime) -> Result<(), Fai
         sums(alloc, 65)?.as_bytes(),
         "refused Q08 NestingDeep at 1:138\n",
     )
+}
+
+/// The place is that of the 65th bracket, however many stand behind it.
+#[test]
+fn two_million_brackets_are_refused_at_the_limit(rt: HostRuntime) -> Result<(), Fail> {
+    let alloc = rt.alloc();
+    let mut source = Vec::from_slice(alloc, b"int x = ")?;
+    source.extend_from_slice(&copies(alloc, b'(', 2_000_000)?)?;
+    let answer = run(alloc, "check", &source, &SOUND)?;
+    let line = "refused Q08 NestingDeep at 1:73\n";
+    assert_eq!(rt; answer.err.bytes(), line.as_bytes());
+    assert_eq!(rt; answer.status, 1);
+    assert!(rt; answer.out.bytes().is_empty());
+    Ok(())
 }
 
 #[test]
