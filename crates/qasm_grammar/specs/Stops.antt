@@ -35,7 +35,7 @@ IsRuleWhere P special rule = (P × (rule ≡ special)) ⊎ ((P → ⊥) × (rule
 
 -- The rule at a token of this kind, behind tokens with which no program goes on.
 abbrev pub RuleAt : List ℕ → List Token → TokenKind → Rule → Type 0
--- a version stands behind the first statement
+-- a version stands where a statement might begin, behind the front of the program
 RuleAt text xs (t.Word k.OpenQasm) rule = IsRuleWhere (MightBegin text xs) Version rule
 RuleAt text xs (t.Word w) rule = rule ≡ cond (is_left_out_word w) LeftOut Syntax
 RuleAt text xs (t.Mark m.Hash) rule = rule ≡ LeftOut
