@@ -28,9 +28,9 @@ pub if_there : {X : Type 0} (P Q : X → Type 0) → ((x : X) → P x → Q x) �
 if_there P Q each None f = f
 if_there P Q each (Some x) f = each x f
 
--- with more names and more expressions
-module _ (names names' n n' : ℕ) (le : names ≤ names') (le' : n ≤ n') where
-  pub id_longer : (x : ExprId) → IsExpr n x → IsExpr n' x
+-- with more expressions
+module _ (n n' : ℕ) (le : n ≤ n') where
+  id_longer : (x : ExprId) → IsExpr n x → IsExpr n' x
   id_longer x f = omega arith
 
   pub maybe_longer : (x : Option ExprId) → IfThere (IsExpr n) x → IfThere (IsExpr n') x
@@ -47,13 +47,6 @@ module _ (names names' n n' : ℕ) (le : names ≤ names') (le' : n ≤ n') wher
   pub indexes_longer : (js : List IndexRef) → AllOf (IndexFits n) js → AllOf (IndexFits n') js
   indexes_longer = all_of (IndexFits n) (IndexFits n') index_longer
 
-  name_longer : (x : OperandName) → NameFits names x → NameFits names' x
-  name_longer (o.Name k) f = omega arith
-  name_longer (o.Hardware k) f = f
-
-  pub operand_longer : (x : OperandRef) → OperandFits names n x → OperandFits names' n' x
-  operand_longer x f = record { name = name_longer x.name f.name; index = indexes_longer x.index f.index }
-
   pub any_type_longer : (x : TypeRef) → AnyTypeFits n x → AnyTypeFits n' x
   any_type_longer x f = record { bool = f.bool; width = maybe_longer x.width f.width }
 
@@ -63,20 +56,30 @@ module _ (names names' n n' : ℕ) (le : names ≤ names') (le' : n ≤ n') wher
   pub qubit_longer : (x : TypeRef) → QubitFits n x → QubitFits n' x
   qubit_longer x f = record { quantum = f.quantum; fits = any_type_longer x f.fits }
 
-  pub declared_longer : (d : Declared) → DeclaredFits names d → DeclaredFits names' d
-  declared_longer d f = omega arith
-
-  pub value_longer : (x : ValueRef) → ValueFits names n x → ValueFits names' n' x
-  value_longer (v.Expr id) f = omega arith
-  value_longer (v.Measure x) f = operand_longer x f
-
   pub modifier_longer : (x : Modifier) → ModifierFits n x → ModifierFits n' x
   modifier_longer (m.Inv place) f = f
   modifier_longer (m.Pow id place) f = omega arith
   modifier_longer (m.Ctrl id place) f = maybe_longer id f
 
+-- with more names
+pub declared_longer : (names names' : ℕ) → names ≤ names' → (d : Declared) → DeclaredFits names d → DeclaredFits names' d
+declared_longer names names' le d f = omega arith
+
+name_longer : (names names' : ℕ) → names ≤ names' → (x : OperandName) → NameFits names x → NameFits names' x
+name_longer names names' le (o.Name k) f = omega arith
+name_longer names names' le (o.Hardware k) f = f
+
+-- with more names and more expressions
+module _ (names names' n n' : ℕ) (le : names ≤ names') (le' : n ≤ n') where
+  pub operand_longer : (x : OperandRef) → OperandFits names n x → OperandFits names' n' x
+  operand_longer x f = record { name = name_longer names names' le x.name f.name; index = indexes_longer n n' le' x.index f.index }
+
+  pub value_longer : (x : ValueRef) → ValueFits names n x → ValueFits names' n' x
+  value_longer (v.Expr id) f = omega arith
+  value_longer (v.Measure x) f = operand_longer x f
+
   pub param_longer : (p : TypeRef × Declared) → ParamFits names n p → ParamFits names' n' p
-  param_longer p f = (any_type_longer p.0 f.0, declared_longer p.1 f.1)
+  param_longer p f = (any_type_longer n n' le' p.0 f.0, declared_longer names names' le p.1 f.1)
 
 -- ---- statements
 
@@ -94,13 +97,13 @@ module _ (names names' : ℕ) (exprs later : List Expr) (stmts behind : List Stm
   operands_on = all_of (OperandFits names (length exprs)) (OperandFits names' (length (exprs ++ later))) operand_on
 
   declared_on : (d : Declared) → DeclaredFits names d → DeclaredFits names' d
-  declared_on = declared_longer names names' (length exprs) (length (exprs ++ later)) le longer_exprs
+  declared_on = declared_longer names names' le
 
   declareds_on : (ds : List Declared) → AllOf (DeclaredFits names) ds → AllOf (DeclaredFits names') ds
   declareds_on = all_of (DeclaredFits names) (DeclaredFits names') declared_on
 
   type_on : (x : TypeRef) → TypeFits (length exprs) x → TypeFits (length (exprs ++ later)) x
-  type_on = type_longer names names' (length exprs) (length (exprs ++ later)) le longer_exprs
+  type_on = type_longer (length exprs) (length (exprs ++ later)) longer_exprs
 
   value_on : (x : ValueRef) → ValueFits names (length exprs) x → ValueFits names' (length (exprs ++ later)) x
   value_on = value_longer names names' (length exprs) (length (exprs ++ later)) le longer_exprs
@@ -109,10 +112,10 @@ module _ (names names' : ℕ) (exprs later : List Expr) (stmts behind : List Stm
   value_if_on = if_there (ValueFits names (length exprs)) (ValueFits names' (length (exprs ++ later))) value_on
 
   ids_on : (xs : List ExprId) → AllOf (IsExpr (length exprs)) xs → AllOf (IsExpr (length (exprs ++ later))) xs
-  ids_on = ids_longer names names' (length exprs) (length (exprs ++ later)) le longer_exprs
+  ids_on = ids_longer (length exprs) (length (exprs ++ later)) longer_exprs
 
   maybe_on : (x : Option ExprId) → IfThere (IsExpr (length exprs)) x → IfThere (IsExpr (length (exprs ++ later))) x
-  maybe_on = maybe_longer names names' (length exprs) (length (exprs ++ later)) le longer_exprs
+  maybe_on = maybe_longer (length exprs) (length (exprs ++ later)) longer_exprs
 
   pub body_on : (n n' : ℕ) → n ≤ n' → (xs : List StmtId) → AllOf (IsStmt n) xs → AllOf (IsStmt n') xs
   body_on n n' ln = all_of (IsStmt n) (IsStmt n') at_each
@@ -125,7 +128,7 @@ module _ (names names' : ℕ) (exprs later : List Expr) (stmts behind : List Stm
 
   pub stmt_on : (n n' : ℕ) → n ≤ n' → n ≤ length stmts → (kind : StmtKind) → StmtFits names exprs stmts n kind → StmtFits names' (exprs ++ later) (stmts ++ behind) n' kind
   stmt_on n n' ln ls s.Include f = f
-  stmt_on n n' ln ls (s.Qubit type name) f = (qubit_longer names names' (length exprs) (length (exprs ++ later)) le longer_exprs type f.0, declared_on name f.1)
+  stmt_on n n' ln ls (s.Qubit type name) f = (qubit_longer (length exprs) (length (exprs ++ later)) longer_exprs type f.0, declared_on name f.1)
   stmt_on n n' ln ls (s.Variable type name value) f = (type_on type f.0, declared_on name f.1, value_if_on value f.2)
   stmt_on n n' ln ls (s.Constant type name id) f = (type_on type f.0, declared_on name f.1, omega (arith, f.2, longer_exprs))
   stmt_on n n' ln ls (s.Output type name) f = (type_on type f.0, declared_on name f.1)
@@ -138,7 +141,7 @@ module _ (names names' : ℕ) (exprs later : List Expr) (stmts behind : List Stm
     body_on n n' ln ids f.3,
   )
   stmt_on n n' ln ls (s.GateCall mods name args os) f = (
-    all_of (ModifierFits (length exprs)) (ModifierFits (length (exprs ++ later))) (modifier_longer names names' (length exprs) (length (exprs ++ later)) le longer_exprs) mods f.0,
+    all_of (ModifierFits (length exprs)) (ModifierFits (length (exprs ++ later))) (modifier_longer (length exprs) (length (exprs ++ later)) longer_exprs) mods f.0,
     declared_on name f.1,
     ids_on args f.2,
     operands_on os f.3,

@@ -9,7 +9,8 @@ use Rattle.qasm_lexer.specs.Spelling.{IsBitString, goes_on, is_numeral, digits_o
 use Rattle.qasm_lexer.specs.Tokens.{Tokens}
 use Rattle.qasm_lexer.proofs.Numerals.{goes_digit}
 use Rattle.qasm_lexer.proofs.Sizes.{tokens_bounded}
-use Rattle.qasm_expr.specs.TokenKinds.{with_bit, bits_from, bits_of, spelled}
+use Rattle.qasm_lexer.specs.Sizes.{bytes_of}
+use Rattle.qasm_expr.specs.TokenKinds.{with_bit, bits_from, bits_of}
 use Rattle.qasm_expr.specs.Seen.{Cut}
 
 -- how the bits go on at a character: by a digit, by a `_`, or by the quote that ends them
@@ -107,5 +108,5 @@ cut_of text tokens few found =
       few = omega (arith, bounded.few, few);
       spans = λ n x e. let span = bounded.spans n x e in (omega (arith, span.0), span.1);
       name_sizes = bounded.names;
-      bits_sizes = λ n x bits e h. let spelt = bits_spelled (spelled text x) bits h in omega (arith, bounded.bit_strings n x spelt.0 e spelt.1, spelt.2);
+      bits_sizes = λ n x bits e h. let spelt = bits_spelled (bytes_of text x) bits h in omega (arith, bounded.bit_strings n x spelt.0 e spelt.1, spelt.2);
     }

@@ -1,5 +1,7 @@
 -- Answers of the parser's functions: refusals on their way out, and readers one level deeper.
 use Rattle.std.proofs.Common.{◌≡◌, ℕ, zero, suc, ◌+◌, ◌-◌, ◌≤◌, ◌<◌, List, length, slice_get, Some, Result, Ok, Err, refl, sym, ap, subst, ◌∙◌, arith}
+use Rattle.std.specs.Result.{IsErr, IsErrAnd}
+use Rattle.std.proofs.lemmas.Result.{err_from_is_err_and}
 use Rattle.qasm_lexer.specs.declared.token.Token.{Token}
 use Rattle.qasm_ast.specs.declared.expr.Expr.{Expr}
 use Rattle.qasm_ast.specs.Tree.{Tree, named, wire, number, truth, bit_string, unary as unary_tree, binary as binary_tree, cast, call, cut, place_of}
@@ -20,6 +22,18 @@ pub exit_mark : {Y B : Type 0} (shows' : Y → B → Type 0) (tokens : List Toke
 exit_mark shows' tokens from at' out out' (s.Syntax n) g le le' h = (omega (arith, h.0), omega (arith, h.0), g _ h.1)
 exit_mark shows' tokens from at' out out' (s.Deep n) g le le' h = (omega (arith, h.0), omega (arith, h.0), g _ h.1)
 exit_mark shows' tokens from at' out out' s.Memory g le le' h = tt
+
+-- a refusal of a part, handed on by `?`, is that of the whole
+module _ {Y B : Type 0} (shows : Y → B → Type 0) (tokens : List Token) (e : Stop) (r : Result (Y × ℕ) Stop) {from at' : ℕ} {out : Outcome Token B} (is : IsErr r × IsErrAnd r (λ y. y ≡ e)) where
+  pub handed : {A : Type 0} {part : Outcome Token A} → Gives {X = Unit {0}} (λ x a. Unit {0}) tokens at' part (Err e) → from ≤ at' → ((x : Refusal Token) → part ≡ Err x → out ≡ Err x) → Gives shows tokens from out r
+  handed {part = part} h le f =
+      let p = err_from_is_err_and r is.1 in
+      rw (p.1, p.2) (exit {X = Unit {0}} (λ x a. Unit {0}) shows tokens from at' part out e f le h)
+
+  pub handed_mark : {part : Outcome Token Token} → Passes tokens at' part (Err e) → from ≤ at' → at' ≤ length tokens → ((x : Refusal Token) → part ≡ Err x → out ≡ Err x) → Gives shows tokens from out r
+  handed_mark {part = part} h le le' f =
+      let p = err_from_is_err_and r is.1 in
+      rw (p.1, p.2) (exit_mark shows tokens from at' part out e f le le' h)
 
 -- what a later reader answers, for the whole
 pub behind : {X A : Type 0} (shows : X → A → Type 0) (tokens : List Token) (from at' : ℕ) (out out' : Outcome Token A) (r : Result (X × ℕ) Stop) → from ≤ at' → out ≡ out' → Gives shows tokens at' out' r → Gives shows tokens from out r

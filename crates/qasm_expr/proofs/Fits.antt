@@ -1,4 +1,4 @@
--- Parts of a node name only nodes that are there: where they are seen, and while the list of nodes grows.
+-- Parts of a node name only nodes that are there.
 use Rattle.std.proofs.Common.{◌≡◌, ℕ, ◌≤◌, ◌==◌, Bool, true, false, cond, List, Option, Some, None, refl, sym, subst, arith}
 use Rattle.std.specs.Prelude.{All}
 use Rattle.std.proofs.lemmas.List.Elements.{All-nil, All-cons, All-weaker}
@@ -15,30 +15,6 @@ use Rattle.qasm_ast.specs.Whole.{AllOf, IfThere, IsExpr, IndexFits, TypeFits}
 use Rattle.grammar_parts.specs.Kinds.{found_in}
 use Rattle.qasm_expr.specs.Grammar.{plain_types, sized_types}
 use Rattle.qasm_expr.specs.Seen.{SeesAll}
-
--- ---- with more nodes
-
-module _ (n m : ℕ) (le : n ≤ m) where
-  pub there_longer : (x : Option ExprId) → IfThere (IsExpr n) x → IfThere (IsExpr m) x
-  there_longer None f = f
-  there_longer (Some id) f = omega arith
-
-  pub all_longer : (ids : List ExprId) → AllOf (IsExpr n) ids → AllOf (IsExpr m) ids
-  all_longer ids f = record { count = f.count; each = All-weaker (IsExpr n) (IsExpr m) (λ (x : ExprId) (lt : IsExpr n x). longer x lt) ids f.each }
-    where
-      longer : (x : ExprId) → IsExpr n x → IsExpr m x
-      longer x lt = omega arith
-
-  pub index_longer : (j : IndexRef) → IndexFits n j → IndexFits m j
-  index_longer (i.At id) f = omega arith
-  index_longer (i.Range x y z place) f = (there_longer x f.0, there_longer y f.1, there_longer z f.2)
-  index_longer (i.Set ids) f = all_longer ids f
-
-  pub indexes_longer : (js : List IndexRef) → All (IndexFits n) js → All (IndexFits m) js
-  indexes_longer js f = All-weaker (IndexFits n) (IndexFits m) index_longer js f
-
-  pub type_longer : (x : TypeRef) → TypeFits n x → TypeFits m x
-  type_longer x f = record { classical = f.classical; fits = record { bool = f.fits.bool; width = there_longer x.width f.fits.width } }
 
 -- ---- where they are seen
 

@@ -7,6 +7,7 @@ pub mod Literals
 pub mod Growing
 pub mod Chains
 pub mod Lists
+pub mod Loops
 pub mod Exits
 pub mod Worked
 pub mod Units

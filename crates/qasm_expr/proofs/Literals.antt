@@ -14,7 +14,8 @@ use Rattle.qasm_ast.specs.Whole.{ExprFits}
 use Rattle.grammar_parts.specs.Reading.{heads, taken, take_one, syntax}
 use Rattle.grammar_parts.specs.Kinds.{among, is_some}
 use Rattle.grammar_parts.proofs.Sets.{heads_by}
-use Rattle.qasm_expr.specs.TokenKinds.{with_bit, bits_from, bits_of, spelled, kind}
+use Rattle.qasm_lexer.specs.Sizes.{bytes_of}
+use Rattle.qasm_expr.specs.TokenKinds.{with_bit, bits_from, bits_of, kind}
 use Rattle.qasm_expr.specs.Grammar.{bits_literal, literal_at, literal_of, name_at, name_of}
 use Rattle.qasm_expr.specs.Reader.{literal_kinds}
 use Rattle.qasm_expr.specs.Seen.{Literal, IsLeaf, plain_literal, is_text, is_name}
@@ -125,11 +126,11 @@ module _ (text : List ℕ) where
   plain_none x (t.Word k.False) h w = absurd (cc)
   plain_none x _ h w = refl
 
-  pub text_read : (x : Token) (kd : TokenKind) (bits : List Bool) → is_text kd ≡ true → bits_of (spelled text x) ≡ Some bits → length bits ≤ 4096 → Read x kd (e.Bits bits)
+  pub text_read : (x : Token) (kd : TokenKind) (bits : List Bool) → is_text kd ≡ true → bits_of (bytes_of text x) ≡ Some bits → length bits ≤ 4096 → Read x kd (e.Bits bits)
   text_read x t.Text bits h b le = record { tree = bit_string bits x.at; found = ap (bits_literal text x.at) b; leaf = λ names nodes id s. s; fits = λ names n. le }
   text_read x _ bits h b le = absurd (cc)
 
-  pub text_none : (x : Token) (kd : TokenKind) → is_text kd ≡ true → bits_of (spelled text x) ≡ None → literal_at text x kd ≡ None
+  pub text_none : (x : Token) (kd : TokenKind) → is_text kd ≡ true → bits_of (bytes_of text x) ≡ None → literal_at text x kd ≡ None
   text_none x t.Text h b = ap (bits_literal text x.at) b
   text_none x _ h b = absurd (cc)
 
@@ -161,7 +162,7 @@ module _ (text : List ℕ) where
 
   -- ---- names
 
-  name_yes : (x : Token) (kd : TokenKind) → is_name kd ≡ true → name_at text x kd ≡ Some (spelled text x, x.at)
+  name_yes : (x : Token) (kd : TokenKind) → is_name kd ≡ true → name_at text x kd ≡ Some (bytes_of text x, x.at)
   name_yes x t.Name h = refl
   name_yes x _ h = absurd (cc)
 
@@ -173,7 +174,7 @@ module _ (text : List ℕ) where
   is_name-true t.Name h = refl
   is_name-true _ h = absurd (cc)
 
-  pub name_found : (tokens : List Token) (from : ℕ) (x d : Token) → from < length tokens → x ≡ get_or tokens from d → is_name x.kind ≡ true → take_one (name_of text) (drop from tokens) ≡ Ok ((spelled text x, x.at), drop (from + 1) tokens)
+  pub name_found : (tokens : List Token) (from : ℕ) (x d : Token) → from < length tokens → x ≡ get_or tokens from d → is_name x.kind ≡ true → take_one (name_of text) (drop from tokens) ≡ Ok ((bytes_of text x, x.at), drop (from + 1) tokens)
   name_found tokens from x d lt e h = ap (take_one (name_of text)) (here tokens from x d lt e) ∙ ap (taken x (drop (from + 1) tokens)) (name_yes x x.kind h)
 
   pub name_missing : (tokens : List Token) (from : ℕ) (x d : Token) → from < length tokens → x ≡ get_or tokens from d → is_name x.kind ≡ false → take_one (name_of text) (drop from tokens) ≡ Err (syntax (drop from tokens))

@@ -11,7 +11,8 @@ use Rattle.qasm_lexer.specs.declared.token.Mark.TheVariants as m
 use Rattle.qasm_ast.specs.Tree.{Tree}
 use Rattle.grammar_parts.specs.Kinds.{has, is_some}
 use Rattle.grammar_parts.proofs.Sets.{Tells}
-use Rattle.qasm_expr.specs.TokenKinds.{keyword_kind, mark_kind, spelled, bits_of, text_kind, kind_of, kind}
+use Rattle.qasm_lexer.specs.Sizes.{bytes_of}
+use Rattle.qasm_expr.specs.TokenKinds.{keyword_kind, mark_kind, bits_of, text_kind, kind_of, kind}
 use Rattle.qasm_expr.specs.Grammar.{bits_literal, literal_at, literal_of, name_at, name_of}
 use Rattle.qasm_expr.specs.Reader.{literal_kinds}
 
@@ -41,18 +42,18 @@ text_no_name true e = cc
 text_no_name false e = cc
 
 module _ (text : List ℕ) where
-  literal_sound : (x : Token) (kd : TokenKind) (a : Tree) → literal_at text x kd ≡ Some a → has literal_kinds (kind_of (is_some (bits_of (spelled text x))) kd) ≡ true
+  literal_sound : (x : Token) (kd : TokenKind) (a : Tree) → literal_at text x kd ≡ Some a → has literal_kinds (kind_of (is_some (bits_of (bytes_of text x))) kd) ≡ true
   literal_sound x (t.Whole n) a e = refl
   literal_sound x (t.Hardware n) a e = refl
-  literal_sound x t.Text a e = bits_sound x.at (bits_of (spelled text x)) a e
+  literal_sound x t.Text a e = bits_sound x.at (bits_of (bytes_of text x)) a e
   literal_sound x (t.Word k.True) a e = refl
   literal_sound x (t.Word k.False) a e = refl
   literal_sound x _ a e = absurd (cc)
 
-  literal_complete : (x : Token) (kd : TokenKind) → has literal_kinds (kind_of (is_some (bits_of (spelled text x))) kd) ≡ true → is_some (literal_at text x kd) ≡ true
+  literal_complete : (x : Token) (kd : TokenKind) → has literal_kinds (kind_of (is_some (bits_of (bytes_of text x))) kd) ≡ true → is_some (literal_at text x kd) ≡ true
   literal_complete x (t.Whole n) e = refl
   literal_complete x (t.Hardware n) e = refl
-  literal_complete x t.Text e = bits_complete x.at (bits_of (spelled text x)) e
+  literal_complete x t.Text e = bits_complete x.at (bits_of (bytes_of text x)) e
   literal_complete x (t.Word k.True) e = refl
   literal_complete x (t.Word k.False) e = refl
   literal_complete x (t.Mark y) e = let n : has literal_kinds (mark_kind y) ≡ false = mark_no_literal y in absurd (cc)
@@ -61,15 +62,15 @@ module _ (text : List ℕ) where
   pub tells_literal : Tells (kind text) (literal_of text) literal_kinds
   tells_literal = record { sound = λ x. literal_sound x x.kind; complete = λ x. literal_complete x x.kind }
 
-  name_sound : (x : Token) (kd : TokenKind) (a : List ℕ × Span) → name_at text x kd ≡ Some a → has (1 ∷ []) (kind_of (is_some (bits_of (spelled text x))) kd) ≡ true
+  name_sound : (x : Token) (kd : TokenKind) (a : List ℕ × Span) → name_at text x kd ≡ Some a → has (1 ∷ []) (kind_of (is_some (bits_of (bytes_of text x))) kd) ≡ true
   name_sound x t.Name a e = refl
   name_sound x _ a e = absurd (cc)
 
-  name_complete : (x : Token) (kd : TokenKind) → has (1 ∷ []) (kind_of (is_some (bits_of (spelled text x))) kd) ≡ true → is_some (name_at text x kd) ≡ true
+  name_complete : (x : Token) (kd : TokenKind) → has (1 ∷ []) (kind_of (is_some (bits_of (bytes_of text x))) kd) ≡ true → is_some (name_at text x kd) ≡ true
   name_complete x t.Name e = refl
   name_complete x (t.Word w) e = let n : has (1 ∷ []) (keyword_kind w) ≡ false = word_no_name w in absurd (cc)
   name_complete x (t.Mark y) e = let n : has (1 ∷ []) (mark_kind y) ≡ false = mark_no_name y in absurd (cc)
-  name_complete x t.Text e = absurd (text_no_name (is_some (bits_of (spelled text x))) e)
+  name_complete x t.Text e = absurd (text_no_name (is_some (bits_of (bytes_of text x))) e)
   name_complete x _ e = absurd (cc)
 
   pub tells_name : Tells (kind text) (name_of text) (1 ∷ [])

@@ -28,7 +28,8 @@ use Rattle.qasm_ast.specs.declared.expr.BinaryOp.TheVariants as op
 use Rattle.qasm_ast.specs.Tree.{word, Tree, named, wire, number, truth, bit_string, unary as unary_tree, binary as binary_tree, cast as cast_tree, call, trees, Maybe, absent, present, Bracket, position, range, members, brackets, place_of, Scalar}
 use Rattle.grammar_parts.specs.Part.{Part, nothing, never, one, then, either, many, repeated}
 use Rattle.grammar_parts.specs.Kinds.{marked, picked, mark, opening, is_free, allowed, any_list, some_list}
-use Rattle.qasm_expr.specs.TokenKinds.{keyword_kind, mark_kind, spelled, bits_of, kind}
+use Rattle.qasm_lexer.specs.Sizes.{bytes_of}
+use Rattle.qasm_expr.specs.TokenKinds.{keyword_kind, mark_kind, bits_of, kind}
 
 -- the operators of each level, the loosest first
 abbrev pub Rows : Type 0
@@ -88,7 +89,7 @@ module _ (text : List ℕ) where
   abbrev pub literal_at : Token → TokenKind → Option Tree
   literal_at x (t.Whole n) = Some (number n x.at)
   literal_at x (t.Hardware n) = Some (wire n x.at)
-  literal_at x t.Text = bits_literal x.at (bits_of (spelled text x))
+  literal_at x t.Text = bits_literal x.at (bits_of (bytes_of text x))
   literal_at x (t.Word k.True) = Some (truth true x.at)
   literal_at x (t.Word k.False) = Some (truth false x.at)
   literal_at x _ = None
@@ -98,7 +99,7 @@ module _ (text : List ℕ) where
   literal_of x = literal_at x x.kind
 
   abbrev pub name_at : Token → TokenKind → Option (List ℕ × Span)
-  name_at x t.Name = Some (spelled text x, x.at)
+  name_at x t.Name = Some (bytes_of text x, x.at)
   name_at x _ = None
 
   -- a name with its place

@@ -55,10 +55,14 @@ module _ (text : List ℕ) where
   unfoldable pub read_cast : ℕ → Reader Token Tree → Reader Token Tree
   read_cast room inner = read_type room inner >>= (λ s. read_grouped room inner >>= (λ e. done (cast_tree s.base s.width s.place e s.place)))
 
-  -- a list of expressions; one that is filled has one at least
+  -- a list with commas of what these kinds begin; one that is filled has one item at least
+  abbrev pub read_listed : {A : Type 0} → List ℕ → Bool → Reader Token A → Reader Token (List A)
+  read_listed set true item = take_some_list (kind text) comma set item
+  read_listed set false item = take_any_list (kind text) comma set item
+
+  -- a list of expressions
   unfoldable pub read_list : Bool → Reader Token Tree → Reader Token (List Tree)
-  read_list true inner = take_some_list (kind text) comma expr_kinds inner
-  read_list false inner = take_any_list (kind text) comma expr_kinds inner
+  read_list filled inner = read_listed expr_kinds filled inner
 
   abbrev pub read_arguments : ℕ → Reader Token Tree → Reader Token (List Tree)
   read_arguments room inner = read_between room (mark_kind m.LeftParen) (mark_kind m.RightParen) (read_list false inner)

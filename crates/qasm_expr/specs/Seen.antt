@@ -22,7 +22,8 @@ use Rattle.grammar_parts.specs.Reading.{Outcome, Reader, syntax, deep, take_one,
 use Rattle.grammar_parts.specs.Kinds.{found_in}
 use Rattle.qasm_expr.specs.declared.stop.Stop.{Stop}
 use Rattle.qasm_expr.specs.declared.stop.Stop.TheVariants as s
-use Rattle.qasm_expr.specs.TokenKinds.{spelled, bits_of, kind}
+use Rattle.qasm_lexer.specs.Sizes.{bytes_of}
+use Rattle.qasm_expr.specs.TokenKinds.{bits_of, kind}
 use Rattle.qasm_expr.specs.Grammar.{Rows, operators, Counted, literal_of}
 use Rattle.qasm_expr.specs.Reader.{expr_kinds, content_kinds, begins, read_expr, read_unary, read_content}
 
@@ -129,8 +130,8 @@ deeper_content text (suc room) = read_content text room (read_expr text (Some 64
 pub record Cut (text : List ℕ) (tokens : List Token) : Type 0 where
   pub few : length tokens < 2 ^ 23
   pub spans : (n : ℕ) (x : Token) → slice_get tokens n ≡ Some x → (x.start ≤ x.end) × (x.end ≤ length text)
-  pub name_sizes : (n : ℕ) (x : Token) → slice_get tokens n ≡ Some x → x.kind ≡ t.Name → length (spelled text x) ≤ 4096
-  pub bits_sizes : (n : ℕ) (x : Token) (bits : List Bool) → slice_get tokens n ≡ Some x → bits_of (spelled text x) ≡ Some bits → length bits ≤ 4096
+  pub name_sizes : (n : ℕ) (x : Token) → slice_get tokens n ≡ Some x → x.kind ≡ t.Name → length (bytes_of text x) ≤ 4096
+  pub bits_sizes : (n : ℕ) (x : Token) (bits : List Bool) → slice_get tokens n ≡ Some x → bits_of (bytes_of text x) ≡ Some bits → length bits ≤ 4096
 
 -- the node of a literal that is no text
 abbrev pub plain_literal : TokenKind → Option ExprKind

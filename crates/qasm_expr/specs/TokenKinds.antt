@@ -1,5 +1,6 @@
 -- Kinds of tokens as numbers, for sets of kinds. A text that is a bit string has a kind of its own.
-use Rattle.std.specs.Prelude.{ℕ, ◌-◌, ◌==◌, Bool, true, false, List, [], ◌∷◌, take, drop, Option, Some, None}
+use Rattle.std.specs.Prelude.{ℕ, ◌==◌, Bool, true, false, List, [], ◌∷◌, Option, Some, None}
+use Rattle.qasm_lexer.specs.Sizes.{bytes_of}
 use Rattle.qasm_lexer.specs.declared.token.Token.{Token}
 use Rattle.qasm_lexer.specs.declared.token.TokenKind.{TokenKind}
 use Rattle.qasm_lexer.specs.declared.token.TokenKind.TheVariants as t
@@ -114,10 +115,6 @@ mark_kind m.CaretAssign = 142
 mark_kind m.ShiftLeftAssign = 143
 mark_kind m.ShiftRightAssign = 144
 
--- the characters of a token
-abbrev pub spelled : List ℕ → Token → List ℕ
-spelled text x = take (x.end - x.start) (drop x.start text)
-
 -- The bits of a bit string: `"`, at least one digit 0 or 1, with single `_` between digits, and `"`.
 abbrev pub with_bit : Bool → Option (List Bool) → Option (List Bool)
 with_bit b None = None
@@ -160,4 +157,4 @@ kind_of bits (t.Mark m) = mark_kind m
 
 -- of a token of this text
 abbrev pub kind : List ℕ → Token → ℕ
-kind text x = kind_of (is_some (bits_of (spelled text x))) x.kind
+kind text x = kind_of (is_some (bits_of (bytes_of text x))) x.kind

@@ -4,7 +4,8 @@ ghost use Rattle.std.specs.Prelude.{◌≡◌, ◌⊎◌, ◌≤◌, ◌<◌, �
 ghost use Rattle.grammar_parts.specs.Reading.{heads, take_one};
 ghost use Rattle.grammar_parts.specs.Kinds.{among};
 ghost use Rattle.qasm_ast.specs.Whole.{ExprFits};
-ghost use Rattle.qasm_expr.specs.TokenKinds.{kind, spelled, bits_of};
+ghost use Rattle.qasm_lexer.specs.Sizes.{bytes_of};
+ghost use Rattle.qasm_expr.specs.TokenKinds.{kind, bits_of};
 ghost use Rattle.qasm_expr.specs.Grammar.{literal_of, name_of};
 ghost use Rattle.qasm_expr.specs.Reader.{literal_kinds};
 ghost use Rattle.qasm_expr.specs.Seen.{Cut, Literal, Gives, Joins};
@@ -142,7 +143,7 @@ pub fn literal(
 pub fn name(text: &[u8], tokens: &[Token], at: usize) -> Result<(Token, usize), Stop>
     requires within { at ≤ length tokens.now }
     requires cut { Cut text.now tokens.now }
-    ensures gives { Gives (λ x a. (a ≡ (spelled text.now x, x.at)) × (x.start ≤ x.end) × (x.end ≤ length text.now) × (length (spelled text.now x) ≤ 4096)) tokens.now at (take_one (name_of text.now) (drop at tokens.now)) result }
+    ensures gives { Gives (λ x a. (a ≡ (bytes_of text.now x, x.at)) × (x.start ≤ x.end) × (x.end ≤ length text.now) × (length (bytes_of text.now x) ≤ 4096)) tokens.now at (take_one (name_of text.now) (drop at tokens.now)) result }
     ensures memory { IfErr result (λ e. e ≡ Syntax at) }
     ensures next { IfOk result (λ r. r.1 ≡ at + 1) }
 {

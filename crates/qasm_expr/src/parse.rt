@@ -6,7 +6,8 @@
 ghost use Rattle.std.specs.Prelude.{◌≡◌, ℕ, ◌≤◌, ◌<◌, ◌+◌, ◌^◌, ◌++◌, ◌∷◌, [], Some, None, Ok, length, drop, slice_get, IfOk, OnOk};
 ghost use Rattle.qasm_ast.specs.Tree.{Maybe, trees, brackets};
 ghost use Rattle.qasm_ast.specs.Whole.{AllOf, IfThere, IsExpr, IndexFits};
-ghost use Rattle.qasm_expr.specs.TokenKinds.{mark_kind, spelled};
+ghost use Rattle.qasm_lexer.specs.Sizes.{bytes_of};
+ghost use Rattle.qasm_expr.specs.TokenKinds.{mark_kind};
 ghost use Rattle.qasm_expr.specs.Reader.{read_expr, read_unary, read_binary, read_type, read_prim, read_cast, read_between, read_behind_name, read_indexes, read_content, read_behind_colon, read_stop, read_list};
 ghost use Rattle.qasm_expr.specs.Seen.{Cut, Gives, Grows, Sees, SeesAll, SeesMaybe, SeesBracket, SeesBrackets, SeesCounted, SeesScalar, Added, deeper_expr, deeper_content, tighter};
 
@@ -367,10 +368,10 @@ fn behind_name(
     requires names { length names.old.keys + length tokens.now < 2 ^ 32 + from }
     requires order { token.start ≤ token.end }
     requires inside { token.end ≤ length text.now }
-    requires size { length (spelled text.now token) ≤ 4096 }
+    requires size { length (bytes_of text.now token) ≤ 4096 }
     requires more { length nodes.old.items + length tokens.now + 1 < 2 ^ 32 + from }
     requires more_names { length names.old.keys + length tokens.now + 1 < 2 ^ 32 + from }
-    ensures gives { Gives (λ x a. Sees names.new.keys nodes.new.items x.0 a) tokens.now from (read_behind_name text.now room (deeper_expr text.now room) (deeper_content text.now room) (spelled text.now token, token.at) (drop from tokens.now)) result }
+    ensures gives { Gives (λ x a. Sees names.new.keys nodes.new.items x.0 a) tokens.now from (read_behind_name text.now room (deeper_expr text.now room) (deeper_content text.now room) (bytes_of text.now token, token.at) (drop from tokens.now)) result }
     ensures grows { Grows names.old.keys names.new.keys nodes.old.items nodes.new.items }
     ensures added { IfOk result (λ r. Added (length names.old.keys) (length names.new.keys) (length nodes.old.items) (length nodes.new.items) from (r.1 + 1)) }
 {

@@ -4,7 +4,8 @@ ghost use Rattle.std.specs.Prelude.{◌≡◌, ◌≤◌, ◌<◌, ◌+◌, ◌=
 ghost use Rattle.std.specs.Bool.{OnTrue};
 ghost use Rattle.grammar_parts.specs.Reading.{heads};
 ghost use Rattle.grammar_parts.specs.Kinds.{has, among, found_in};
-ghost use Rattle.qasm_expr.specs.TokenKinds.{keyword_kind, mark_kind, kind_of, kind, spelled, bits_of};
+ghost use Rattle.qasm_lexer.specs.Sizes.{bytes_of};
+ghost use Rattle.qasm_expr.specs.TokenKinds.{keyword_kind, mark_kind, kind_of, kind, bits_of};
 ghost use Rattle.qasm_expr.specs.Grammar.{operators, unary_operators, plain_types, sized_types};
 ghost use Rattle.qasm_expr.specs.Seen.{Cut, Passes, head_kind, head_in, head_place, rows_at};
 ghost use Rattle.qasm_expr.specs.Reader.{expr_kinds, type_kinds, read_sign, read_opener};

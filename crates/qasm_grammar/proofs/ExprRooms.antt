@@ -13,7 +13,8 @@ use Rattle.qasm_ast.specs.Level.{right_level, level_of, trees_level, maybe_level
 use Rattle.grammar_parts.specs.Part.{Part}
 use Rattle.grammar_parts.specs.Kinds.{found_in, with_token, picked, is_free}
 use Rattle.grammar_parts.proofs.Sets.{both_true}
-use Rattle.qasm_expr.specs.TokenKinds.{spelled, bits_of, kind}
+use Rattle.qasm_lexer.specs.Sizes.{bytes_of}
+use Rattle.qasm_expr.specs.TokenKinds.{bits_of, kind}
 use Rattle.qasm_expr.specs.Grammar.{Rows, operators, Counted, Link, join, comma, bits_literal, literal_at, width, type, grouped, cast, arguments, stop, behind_colon, set, content, index, behind_name, prim, power, unary_at, link, level, binary, expr_of, unary, expr}
 use Rattle.qasm_grammar.proofs.Holding.{Holds, Each, holds_nothing, holds_never, holds_one, holds_then, holds_behind, holds_either, holds_cond, holds_wider, holds_map, holds_many, holds_repeated, holds_opening, holds_any_list, holds_some_list}
 
@@ -45,7 +46,7 @@ bits_fit text room place (Some bits) e h = no_level room (bit_string bits place)
 literal_fits : (text : List ℕ) (room : ℕ) (x : Token) (kd : TokenKind) (e : Tree) → literal_at text x kd ≡ Some e → Fits room e
 literal_fits text room x (t.Whole n) e h = no_level room (number n x.at) e h refl
 literal_fits text room x (t.Hardware n) e h = no_level room (wire n x.at) e h refl
-literal_fits text room x t.Text e h = bits_fit text room x.at (bits_of (spelled text x)) e h
+literal_fits text room x t.Text e h = bits_fit text room x.at (bits_of (bytes_of text x)) e h
 literal_fits text room x (t.Word k.True) e h = no_level room (truth true x.at) e h refl
 literal_fits text room x (t.Word k.False) e h = no_level room (truth false x.at) e h refl
 literal_fits text room x _ e h = absurd (cc)

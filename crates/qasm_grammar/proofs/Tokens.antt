@@ -10,7 +10,8 @@ use Rattle.qasm_lexer.specs.declared.token.Mark.TheVariants as m
 use Rattle.qasm_ast.specs.Tree.{Operand}
 use Rattle.grammar_parts.specs.Kinds.{has, is_some, Among}
 use Rattle.grammar_parts.proofs.Sets.{Tells}
-use Rattle.qasm_expr.specs.TokenKinds.{keyword_kind, mark_kind, spelled, bits_of, text_kind, kind_of, kind}
+use Rattle.qasm_lexer.specs.Sizes.{bytes_of}
+use Rattle.qasm_expr.specs.TokenKinds.{keyword_kind, mark_kind, bits_of, text_kind, kind_of, kind}
 use Rattle.qasm_grammar.specs.Parts.{hardware_at, hardware_of, version_at, version_of, included_at, included}
 
 mark_no_hardware : (x : Mark) → has (6 ∷ []) (mark_kind x) ≡ false
@@ -50,11 +51,11 @@ module _ (text : List ℕ) where
   included_sound bits x a _ e = absurd (cc)
 
   pub tells_hardware : Tells (kind text) hardware_of (6 ∷ [])
-  tells_hardware = record { sound = λ x o e. hardware_sound (is_some (bits_of (spelled text x))) x x.kind o e; complete = λ x e. hardware_complete (is_some (bits_of (spelled text x))) x x.kind e }
+  tells_hardware = record { sound = λ x o e. hardware_sound (is_some (bits_of (bytes_of text x))) x x.kind o e; complete = λ x e. hardware_complete (is_some (bits_of (bytes_of text x))) x x.kind e }
 
   -- not each token of these kinds is a version or a file that may stand
   pub version_among : (x a : Token) → version_of x ≡ Some a → Among (kind text) (5 ∷ []) x
-  version_among x a e = version_sound (is_some (bits_of (spelled text x))) x a x.kind e
+  version_among x a e = version_sound (is_some (bits_of (bytes_of text x))) x a x.kind e
 
   pub included_among : (x a : Token) → included text x ≡ Some a → Among (kind text) (3 ∷ 4 ∷ []) x
-  included_among x a e = included_sound (is_some (bits_of (spelled text x))) x a x.kind e
+  included_among x a e = included_sound (is_some (bits_of (bytes_of text x))) x a x.kind e

@@ -25,7 +25,8 @@ use Rattle.qasm_ast.specs.declared.expr.Base.TheVariants as b
 use Rattle.qasm_ast.specs.Tree.{word, qubit, Tree, trees, Trees, Maybe, maybe, Bracket, brackets, no_bracket, Name, Scalar, Operand, Value, expression, measured, Change, inverse, power, control, Parameter, Statement, gate_call, Statements, no_statement, a_statement}
 use Rattle.grammar_parts.specs.Part.{Part, nothing, never, one, then, either, repeated}
 use Rattle.grammar_parts.specs.Kinds.{any_list, some_list}
-use Rattle.qasm_expr.specs.TokenKinds.{keyword_kind, mark_kind, spelled, kind}
+use Rattle.qasm_lexer.specs.Sizes.{bytes_of}
+use Rattle.qasm_expr.specs.TokenKinds.{keyword_kind, mark_kind, kind}
 use Rattle.qasm_expr.specs.Grammar.{scalar, comma, name_of, sign, opener, width, type, grouped, arguments, content, index, expr}
 
 -- ---- what the parts derive
@@ -133,7 +134,7 @@ optional p = either (then p (λ a. nothing (Some a))) (nothing None)
 
 module _ (text : List ℕ) where
   abbrev pub included_at : Token → TokenKind → Option Token
-  included_at x t.Text = cond (is_stdgates (spelled text x)) (Some x) None
+  included_at x t.Text = cond (is_stdgates (bytes_of text x)) (Some x) None
   included_at x _ = None
 
   -- the file that may be included

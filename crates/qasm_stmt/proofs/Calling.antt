@@ -26,16 +26,6 @@ use Rattle.qasm_stmt.proofs.Growing.{grown_by, sound_by, tree_later}
 use Rattle.qasm_stmt.proofs.Showing.{trees_each, map_each, fits_each}
 use Rattle.qasm_stmt.proofs.Lines.{operands_whole}
 
--- ---- names that are read
-
-pub name_read : (o : Outcome Token (List ℕ × Span)) (n : Name) (rest : List Token) → and_then o (λ w. done (declared w)) ≡ Ok (n, rest) → (w : List ℕ × Span) × (o ≡ Ok (w, rest)) × (declared w ≡ n)
-name_read (Ok r) n rest h = let same : (declared r.0, r.1) ≡ (n, rest) = cc in (r.0, ap (λ (p : Name × List Token). Ok (r.0, p.1)) same, ap (λ (p : Name × List Token). p.0) same)
-name_read (Err y) n rest h = absurd (cc)
-
-pub name_refused : (o : Outcome Token (List ℕ × Span)) (x : Refusal Token) → and_then {B = Name} o (λ w. done (declared w)) ≡ Err x → o ≡ Err x
-name_refused (Ok r) x h = absurd (cc)
-name_refused (Err y) x h = let same : y ≡ x = cc in ap (λ z. Err z) same
-
 module _ (a : Arena) where
   -- ---- targets
 

@@ -79,6 +79,9 @@ each_on R S f (x ∷ xs) (a ∷ as') e = (f x a e.0, each_on R S f xs as' e.1)
 each_on R S f [] (a ∷ as') e = absurd e
 each_on R S f (x ∷ xs) [] e = absurd e
 
+pub each_none : {X A : Type 0} (R : X → A → Type 0) (xs : List X) → xs ≡ [] → Each R xs []
+each_none R xs e = subst (λ l. Each R l []) (sym e) tt
+
 pub each_push : {X A : Type 0} (R : X → A → Type 0) (xs : List X) (as' : List A) (x : X) (a : A) → Each R xs as' → R x a → Each R (xs ++ x ∷ []) (as' ++ a ∷ [])
 each_push R [] [] x a e r = (r, tt)
 each_push R (y ∷ xs) (b ∷ as') x a e r = (e.0, each_push R xs as' x a e.1 r)
@@ -129,31 +132,31 @@ module _ {a b : Arena} (s : Sound a) (g : Grown a b) where
 
   pub maybe_later : (x : Option ExprId) (t : Maybe) → IsMaybe a x t → IsMaybe b x t
   maybe_later x t (f, e) = moved (λ ns es ss. IfThere (IsExpr (length es)) x × (maybe_at (tree_of ns es) x ≡ t)) (
-    maybe_longer (length names) (length (names ++ g.more_names)) (length exprs) (length (exprs ++ g.more_exprs)) le_names le_exprs x f,
+    maybe_longer (length exprs) (length (exprs ++ g.more_exprs)) le_exprs x f,
     some_same names g.more_names (tree_of names exprs) (tree_of (names ++ g.more_names) (exprs ++ g.more_exprs)) (length exprs) same x f ∙ e,
   )
 
   pub trees_later : (xs : List ExprId) (ts : Trees) → IsTrees a xs ts → IsTrees b xs ts
   trees_later xs ts (f, e) = moved (λ ns es ss. AllOf (IsExpr (length es)) xs × (trees_at (tree_of ns es) xs ≡ ts)) (
-    ids_longer (length names) (length (names ++ g.more_names)) (length exprs) (length (exprs ++ g.more_exprs)) le_names le_exprs xs f,
+    ids_longer (length exprs) (length (exprs ++ g.more_exprs)) le_exprs xs f,
     ids_same names g.more_names (tree_of names exprs) (tree_of (names ++ g.more_names) (exprs ++ g.more_exprs)) (length exprs) same xs f.each ∙ e,
   )
 
   pub name_later : (x : Declared) (n : Name) → IsName a x n → IsName b x n
   name_later x n (f, e) = moved (λ ns es ss. DeclaredFits (length ns) x × (name_of ns (tree_of ns es) x ≡ n)) (
-    declared_longer (length names) (length (names ++ g.more_names)) (length exprs) (length (exprs ++ g.more_exprs)) le_names le_exprs x f,
+    declared_longer (length names) (length (names ++ g.more_names)) le_names x f,
     name_stays names g.more_names (tree_of names exprs) (tree_of (names ++ g.more_names) (exprs ++ g.more_exprs)) (length exprs) same x f ∙ e,
   )
 
   pub type_later : (x : TypeRef) (t : Scalar) → IsType a x t → IsType b x t
   type_later x t (f, e) = moved (λ ns es ss. TypeFits (length es) x × (scalar_of ns (tree_of ns es) x ≡ t)) (
-    type_longer (length names) (length (names ++ g.more_names)) (length exprs) (length (exprs ++ g.more_exprs)) le_names le_exprs x f,
+    type_longer (length exprs) (length (exprs ++ g.more_exprs)) le_exprs x f,
     scalar_stays names g.more_names (tree_of names exprs) (tree_of (names ++ g.more_names) (exprs ++ g.more_exprs)) (length exprs) same x f.fits ∙ e,
   )
 
   pub brackets_later : (xs : List IndexRef) (bs : List Bracket) → IsBrackets a xs bs → IsBrackets b xs bs
   brackets_later xs bs (f, e) = moved (λ ns es ss. AllOf (IndexFits (length es)) xs × (brackets_at (tree_of ns es) xs ≡ brackets bs)) (
-    indexes_longer (length names) (length (names ++ g.more_names)) (length exprs) (length (exprs ++ g.more_exprs)) le_names le_exprs xs f,
+    indexes_longer (length exprs) (length (exprs ++ g.more_exprs)) le_exprs xs f,
     indexes_same names g.more_names (tree_of names exprs) (tree_of (names ++ g.more_names) (exprs ++ g.more_exprs)) (length exprs) same xs f.each ∙ e,
   )
 
@@ -171,7 +174,7 @@ module _ {a b : Arena} (s : Sound a) (g : Grown a b) where
 
   pub change_later : (x : Modifier) (h : Change) → IsChange a x h → IsChange b x h
   change_later x h (f, e) = moved (λ ns es ss. ModifierFits (length es) x × (change_of ns (tree_of ns es) x ≡ h)) (
-    modifier_longer (length names) (length (names ++ g.more_names)) (length exprs) (length (exprs ++ g.more_exprs)) le_names le_exprs x f,
+    modifier_longer (length exprs) (length (exprs ++ g.more_exprs)) le_exprs x f,
     change_stays names g.more_names (tree_of names exprs) (tree_of (names ++ g.more_names) (exprs ++ g.more_exprs)) (length exprs) same x f ∙ e,
   )
 

@@ -34,14 +34,6 @@ pub holds_on_ok : {X E P : Type 0} (r : Result X E) → P → OnOk r P
 holds_on_ok (Ok x) p = p
 holds_on_ok (Err y) p = tt
 
--- one more behind a list, while what is seen stays
-pub each_with : {X A : Type 0} (R S : X → A → Type 0) (found more : List X) (acc : List A) (x : X) (v : A) → ((y : X) (b : A) → R y b → S y b) → more ≡ found ++ x ∷ [] → Each R found acc → S x v → Each S more (acc ++ v ∷ [])
-each_with R S found more acc x v on h e s = subst (λ l. Each S l (acc ++ v ∷ [])) (sym h) (each_push S found acc x v (each_on R S on found acc e) s)
-
--- an empty list
-pub none_listed : {X A : Type 0} (R : X → A → Type 0) (found : List X) → found ≡ [] → IsList R found []
-none_listed R found e = subst (λ l. IsList R l []) (sym e) (omega arith, tt)
-
 -- an answer stands for what is shown otherwise, where more is known of its value
 gives_known : {X A : Type 0} (shows shows' : X → A → Type 0) (Known : X → Type 0) (tokens : List Token) (from : ℕ) (out : Outcome Token A) (r : Result (X × ℕ) Stop) → ((x : X) (v : A) → Known x → shows x v → shows' x v) → IfOk r (λ p. Known p.0) → Gives shows tokens from out r → Gives shows' tokens from out r
 gives_known shows shows' Known tokens from out (Ok r) f k g = (g.0, f r.0 g.0 k g.1, g.2, g.3, g.4)

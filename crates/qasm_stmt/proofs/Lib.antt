@@ -1,11 +1,9 @@
-pub mod Loops
 pub mod Growing
 pub mod Showing
 pub mod Versions
 pub mod Programs
 pub mod Handed
 pub mod Texts
-pub mod Handing
 pub mod Spellings
 pub mod Filling
 pub mod Changes

@@ -1,5 +1,4 @@
--- Refusals of the parts of a line, on their way out of the function that reads the line, and lines that are made
--- of parts.
+-- Tokens of a line that were seen, and lines that are made of parts.
 use Rattle.std.proofs.Common.{◌≡◌, ℕ, ◌+◌, ◌≤◌, ◌<◌, Bool, true, List, [], ◌∷◌, length, drop, map, Option, Some, None, Result, Ok, Err, refl, ap, subst, sym, ◌∙◌, arith}
 use Rattle.std.specs.Prelude.{◌==◌}
 use Rattle.std.specs.Result.{IsErrAnd}
@@ -32,20 +31,7 @@ use Rattle.qasm_stmt.specs.declared.arena.Arena.{Arena}
 use Rattle.qasm_stmt.specs.Seen.{IsList, IfBoth, tree, IsTree, IsMaybe, IsType, IsOperand, IsValue, IsLine, line_of}
 use Rattle.qasm_stmt.proofs.Showing.{map_each, fits_each}
 
--- ---- refusals
-
--- what a refusal of a reader is, whatever its answers stand for
-abbrev pub Refuses : {A : Type 0} → List Token → ℕ → Outcome Token A → Stop → Type 0
-Refuses {A} tokens from out e = Gives {X = Unit {0}} {A = A} (λ x a. Unit {0}) tokens from out (Err e)
-
-module _ {Y B : Type 0} (shows : Y → B → Type 0) (tokens : List Token) (from at' : ℕ) (out' : Outcome Token B) (e : Stop) (r : Result (Y × ℕ) Stop) (left : IsErrAnd r (λ y. y ≡ e)) where
-  -- of a part that is read from a later place on
-  pub leave : {A : Type 0} (out : Outcome Token A) → ((x : Refusal Token) → out ≡ Err x → out' ≡ Err x) → from ≤ at' → Refuses tokens at' out e → Gives shows tokens from out' r
-  leave {A} out g le h = let p = err_from_is_err_and r left in rw (p.1, p.2) (exit {X = Unit {0}} {A = A} (λ x a. Unit {0}) shows tokens from at' out out' e g le h)
-
-  -- of a single token
-  pub leave_mark : (out : Outcome Token Token) → ((x : Refusal Token) → out ≡ Err x → out' ≡ Err x) → from ≤ at' → at' ≤ length tokens → Passes tokens at' out (Err e) → Gives shows tokens from out' r
-  leave_mark out g le le' h = let p = err_from_is_err_and r left in rw (p.1, p.2) (exit_mark shows tokens from at' out out' e g le le' h)
+-- ---- tokens that were seen
 
 -- a token of this kind, where it was seen
 pub mark_seen : (text : List ℕ) (tokens : List Token) (from k : ℕ) → 0 < k → from ≤ length tokens → (head_kind text (drop from tokens) == k) ≡ true → (x : Token) × (heads (begins text (k ∷ [])) (drop from tokens) ≡ true) × (from + 1 ≤ length tokens) × (read_sign text k (drop from tokens) ≡ Ok (x, drop (from + 1) tokens))

@@ -1,4 +1,4 @@
--- Statements by the room that is left, bodies one level deeper, and refusals on their way out.
+-- Statements by the room that is left, and bodies one level deeper.
 use Rattle.std.proofs.Common.{◌≡◌, ℕ, zero, suc, ◌-◌, ◌≤◌, ◌<◌, ◌^◌, Bool, true, false, ◌||◌, cond, List, [], ◌∷◌, length, Some, None, Result, Ok, Err, refl, sym, ap, subst, ◌∙◌, arith}
 use Rattle.std.specs.Prelude.{◌==◌, IsErrAnd}
 use Rattle.qasm_lexer.specs.declared.token.Token.{Token}
@@ -24,28 +24,6 @@ use Rattle.qasm_grammar.specs.Grammar.{without_else, with_else}
 use Rattle.qasm_stmt.specs.declared.arena.Arena.{Arena}
 use Rattle.qasm_stmt.specs.Seen.{Few, Pushed, Each, Any, IsStatement, IsStatements, IsMember, tree, stmt, deeper_block, deeper_body}
 use Rattle.qasm_stmt.proofs.Growing.{each_all}
-
--- ---- refusals on their way out
-
-module _ {B Y : Type 0} (shows : Y → B → Type 0) (tokens : List Token) (from at' : ℕ) where
-  -- of a call
-  pub leave : {A : Type 0} (out : Outcome Token A) (out' : Outcome Token B) (e : Stop) (r : Result (Y × ℕ) Stop) → IsErrAnd r (λ y. y ≡ e) → ((x : Refusal Token) → out ≡ Err x → out' ≡ Err x) → from ≤ at' → Gives {X = Unit {0}} Any tokens at' out (Err e) → Gives shows tokens from out' r
-  leave out out' e (Err y) h g le w = subst (λ z. Gives shows tokens from out' (Err z)) (sym h) (exit {X = Unit {0}} Any shows tokens from at' out out' e g le w)
-  leave out out' e (Ok y) h g le w = absurd h
-
-  -- of a mark
-  pub leave_mark : (out : Outcome Token Token) (out' : Outcome Token B) (e : Stop) (r : Result (Y × ℕ) Stop) → IsErrAnd r (λ y. y ≡ e) → ((x : Refusal Token) → out ≡ Err x → out' ≡ Err x) → from ≤ at' → at' ≤ length tokens → Passes tokens at' out (Err e) → Gives shows tokens from out' r
-  leave_mark out out' e (Err y) h g le le' w = subst (λ z. Gives shows tokens from out' (Err z)) (sym h) (exit_mark shows tokens from at' out out' e g le le' w)
-  leave_mark out out' e (Ok y) h g le le' w = absurd h
-
--- ---- words that are seen
-
-word_positive : (w : Keyword) → 0 < keyword_kind w
-word_positive k.Include = omega arith
-word_positive _ = omega arith
-
-pub word_heads : (text : List ℕ) (w : Keyword) (ts : List Token) (b c : Bool) → b ≡ (head_kind text ts == keyword_kind w) → b ≡ c → heads (begins text (word_kinds w)) ts ≡ c
-word_heads text w ts b c e f = heads_sign text (keyword_kind w) ts c (word_positive w) (sym e ∙ f)
 
 -- ---- by the room
 

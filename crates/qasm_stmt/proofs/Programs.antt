@@ -34,7 +34,8 @@ use Rattle.grammar_parts.specs.Reading.{Outcome, syntax, deep}
 use Rattle.grammar_parts.specs.Reading as Reading
 use Rattle.qasm_expr.specs.declared.stop.Stop.{Stop}
 use Rattle.qasm_expr.specs.declared.stop.Stop.TheVariants as e
-use Rattle.qasm_expr.specs.TokenKinds.{spelled, bits_of}
+use Rattle.qasm_lexer.specs.Sizes.{bytes_of}
+use Rattle.qasm_expr.specs.TokenKinds.{bits_of}
 use Rattle.qasm_expr.specs.Seen.{Cut, Gives}
 use Rattle.qasm_expr.proofs.Growing.{get_either}
 use Rattle.qasm_grammar.specs.Stops.{a_barrier}
@@ -63,8 +64,8 @@ cut_barred text tokens n lt cut = record {
     no_name : (x : Token) → a_barrier ≡ x → x.kind ≡ t.Name → ⊥
     no_name x h g = let w : a_barrier.kind ≡ t.Name = ap (λ (y : Token). y.kind) h ∙ g in absurd (cc)
 
-    no_bits : (x : Token) → a_barrier ≡ x → (bits : List Bool) → bits_of (spelled text x) ≡ Some bits → ⊥
-    no_bits x h bits g = let w : bits_of (spelled text a_barrier) ≡ Some bits = ap (λ y. bits_of (spelled text y)) h ∙ g in absurd (cc)
+    no_bits : (x : Token) → a_barrier ≡ x → (bits : List Bool) → bits_of (bytes_of text x) ≡ Some bits → ⊥
+    no_bits x h bits g = let w : bits_of (bytes_of text a_barrier) ≡ Some bits = ap (λ y. bits_of (bytes_of text y)) h ∙ g in absurd (cc)
 
 pub empty_drop : (n : ℕ) (xs : List Token) → n ≤ length xs → is_empty (drop n xs) ≡ (n == length xs)
 empty_drop n xs le = by_rest (drop n xs) refl

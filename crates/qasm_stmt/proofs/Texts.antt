@@ -5,7 +5,7 @@ use Rattle.std.specs.Cmp.Lexicographic.{pointwise}
 use Rattle.qasm_lexer.specs.declared.token.Token.{Token}
 use Rattle.qasm_lexer.specs.declared.token.TokenKind.TheVariants as t
 use Rattle.grammar_parts.specs.Reading.{take_one, taken}
-use Rattle.qasm_expr.specs.TokenKinds.{spelled}
+use Rattle.qasm_lexer.specs.Sizes.{bytes_of}
 use Rattle.qasm_expr.proofs.Places.{Split, split_at}
 use Rattle.qasm_expr.proofs.Units.{token_is}
 use Rattle.qasm_grammar.specs.Parts.{same, is_stdgates, included, included_at}
@@ -20,7 +20,7 @@ same_is (x ∷ xs) (y ∷ ys) = ap (λ b. (x == y) && b) (same_is xs ys)
 pub either_quote : (cs single : List ℕ) (r : Bool) → single ≡ (39 ∷ []) ++ (codes "stdgates.inc" ++ (39 ∷ [])) → pointwise nat_eq cs ((34 ∷ []) ++ (codes "stdgates.inc" ++ (34 ∷ []))) ≡ false → r ≡ pointwise nat_eq cs single → r ≡ is_stdgates cs
 either_quote cs single r h e f = f ∙ ap (pointwise nat_eq cs) h ∙ same_is cs ((39 ∷ []) ++ (codes "stdgates.inc" ++ (39 ∷ []))) ∙ ap (λ b. b || same cs ((39 ∷ []) ++ (codes "stdgates.inc" ++ (39 ∷ [])))) (sym e ∙ same_is cs ((34 ∷ []) ++ (codes "stdgates.inc" ++ (34 ∷ []))))
 
-pub text_taken : (text : List ℕ) (tokens : List Token) (from : ℕ) (d : Token) → from < length tokens → (get_or tokens from d).kind ≡ t.Text → is_stdgates (spelled text (get_or tokens from d)) ≡ true → take_one (included text) (drop from tokens) ≡ Ok (get_or tokens from d, drop (from + 1) tokens)
+pub text_taken : (text : List ℕ) (tokens : List Token) (from : ℕ) (d : Token) → from < length tokens → (get_or tokens from d).kind ≡ t.Text → is_stdgates (bytes_of text (get_or tokens from d)) ≡ true → take_one (included text) (drop from tokens) ≡ Ok (get_or tokens from d, drop (from + 1) tokens)
 text_taken text tokens from d lt k h = at_split (split_at tokens from (omega arith))
   where
     x : Token

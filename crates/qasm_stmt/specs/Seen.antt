@@ -50,11 +50,6 @@ IfBoth R None None = Unit {0}
 IfBoth R (Some x) (Some a) = R x a
 IfBoth R _ _ = ⊥
 
--- a list with commas, which has one item at least where it is filled
-abbrev pub read_listed : {A : Type 0} → List ℕ → List ℕ → Bool → Reader Token A → Reader Token (List A)
-read_listed text set true item = take_some_list (kind text) comma set item
-read_listed text set false item = take_any_list (kind text) comma set item
-
 -- ---- bodies one level deeper
 
 abbrev pub deeper_block : List ℕ → ℕ → Reader Token p.Block

@@ -3,7 +3,8 @@
 ghost use Rattle.std.specs.Prelude.{◌≡◌, ◌≤◌, Some, Ok, length, drop, IfOk, OnOk};
 ghost use Rattle.qasm_expr.specs.Seen.{Cut, Gives};
 ghost use Rattle.qasm_grammar.specs.Reader.{read_name, name_kinds};
-ghost use Rattle.qasm_stmt.specs.Seen.{Sound, Few, Grown, IsList, IsName, read_listed};
+ghost use Rattle.qasm_expr.specs.Reader.{read_listed};
+ghost use Rattle.qasm_stmt.specs.Seen.{Sound, Few, Grown, IsList, IsName};
 
 use crate::arena::Arena;
 use crate::begins::begins_name;

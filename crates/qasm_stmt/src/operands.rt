@@ -5,7 +5,8 @@ ghost use Rattle.qasm_expr.specs.Seen.{Cut, Gives};
 ghost use Rattle.grammar_parts.specs.Reading.{take_one};
 ghost use Rattle.qasm_grammar.specs.Parts.{hardware_of};
 ghost use Rattle.qasm_grammar.specs.Reader.{read_target, read_operand, read_value, operand_kinds};
-ghost use Rattle.qasm_stmt.specs.Seen.{Sound, Few, Grown, IsList, IsOperand, IsValue, IsWire, read_listed};
+ghost use Rattle.qasm_expr.specs.Reader.{read_listed};
+ghost use Rattle.qasm_stmt.specs.Seen.{Sound, Few, Grown, IsList, IsOperand, IsValue, IsWire};
 
 use crate::arena::Arena;
 use crate::begins::{begins_name, begins_operand};

@@ -3,7 +3,8 @@
 ghost use Rattle.std.specs.Prelude.{◌≡◌, ◌≤◌, false, Some, Ok, length, drop, IfOk, OnOk};
 ghost use Rattle.qasm_expr.specs.Seen.{Cut, Gives};
 ghost use Rattle.qasm_grammar.specs.Reader.{read_parameter, read_parameters, read_any_gate_parameters, read_result, parameter_kinds};
-ghost use Rattle.qasm_stmt.specs.Seen.{Sound, Few, Grown, IsList, IfBoth, IsName, IsType, IsParameter, read_listed};
+ghost use Rattle.qasm_expr.specs.Reader.{read_listed};
+ghost use Rattle.qasm_stmt.specs.Seen.{Sound, Few, Grown, IsList, IfBoth, IsName, IsType, IsParameter};
 
 use crate::arena::Arena;
 use crate::begins::begins_parameter;

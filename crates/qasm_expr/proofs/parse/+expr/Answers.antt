@@ -1,6 +1,6 @@
 use Rattle.std.proofs.Common.{rules, ◌≡◌, ℕ, Vec, Global, ◌+◌, ◌-◌, ◌≤◌, ◌<◌, ◌∷◌, ◌++◌, [], List, true, false, Some, None, length, drop, refl, sym, ap, subst, ◌∙◌, le_refl, length-drop, length-append, arith}
 use Rattle.std.specs.Prelude.{All}
-use Rattle.std.proofs.lemmas.List.Elements.{All-nil, All-push}
+use Rattle.std.proofs.lemmas.List.Elements.{All-nil, All-push, All-weaker}
 use Rattle.qasm_ast.specs.Whole.{IndexFits}
 use Rattle.std.proofs.lemmas.Result.{err_from_is_err_and}
 use Rattle.std.proofs.lemmas.Option.{slice_get-get_or}
@@ -12,19 +12,22 @@ use Rattle.qasm_ast.specs.declared.expr.BinaryOp.TheVariants as op
 use Rattle.qasm_ast.specs.declared.expr.IndexRef.{IndexRef}
 use Rattle.qasm_ast.specs.Tree.{Tree, absent, present, word, named, unary as unary_tree, binary as binary_tree, cast as cast_tree, call, place_of, Bracket, position, range, members, trees, brackets}
 use Rattle.grammar_parts.specs.Reading.{take_one}
-use Rattle.qasm_expr.specs.TokenKinds.{mark_kind, spelled}
+use Rattle.qasm_lexer.specs.Sizes.{bytes_of}
+use Rattle.qasm_expr.specs.TokenKinds.{mark_kind}
 use Rattle.qasm_expr.specs.Grammar.{scalar, name_of}
-use Rattle.qasm_expr.specs.Reader.{read_sign, read_opener, read_between, read_width, read_grouped, read_type, read_cast, read_list, read_stop, read_behind_colon, read_behind_start, read_set, read_content, read_index, read_indexes, read_behind_name, read_prim, read_binary, read_unary, read_expr}
+use Rattle.qasm_expr.specs.Reader.{expr_kinds, read_sign, read_opener, read_between, read_width, read_grouped, read_type, read_cast, read_list, read_stop, read_behind_colon, read_behind_start, read_set, read_content, read_index, read_indexes, read_behind_name, read_prim, read_binary, read_unary, read_expr}
 use Rattle.qasm_lexer.specs.declared.token.Token.{Token}
 use Rattle.qasm_expr.specs.Seen.{Grows, Sees, SeesAll, SeesBracket, SeesBrackets, SeesCounted, SeesScalar, deeper_expr, deeper_content, tighter, rows_at}
 use Rattle.qasm_expr.proofs.Places.{heads_sign, passes_yes}
 use Rattle.qasm_expr.proofs.Growing.{get_below, nodes_longer, name_later, last_found, grows_same, grows_add, grows_name, grows_on, sees_later, all_later, maybe_later, brackets_later, sees_below}
 use Rattle.qasm_expr.proofs.Chains.{Going, going_start, going_end, going_full, going_err, going_step}
-use Rattle.qasm_expr.proofs.Lists.{maybe_on, all_with, brackets_with, all_wider, maybe_wider, brackets_wider, bracketing_start, bracketing_stop, bracketing_err, bracketing_more, listing_start, listing_stop, listing_err, listing_end, listing_more}
+use Rattle.qasm_expr.proofs.Lists.{maybe_on, all_with, brackets_with, all_wider, maybe_wider, brackets_wider}
+use Rattle.qasm_expr.proofs.Loops.{repeating_start, repeating_stop, repeating_err, repeating_more, listing_start, listing_stop, listing_err, listing_end, listing_more}
 use Rattle.qasm_expr.proofs.Levels.{expr_moves}
 use Rattle.qasm_expr.proofs.Exits.{exit, exit_mark, behind, grows_kept, deeper_expr_at, deeper_content_at, binary_open, sees_place}
 use Rattle.qasm_expr.proofs.Units.{token_is, sign_ahead, sign_shut, base_err, base_alone, power_full, power_shut, power_on, rows_none, level_err, pushed}
-use Rattle.qasm_expr.proofs.Fits.{there_longer, indexes_longer, type_longer, all_seen, plain_fits, sized_fits}
+use Rattle.qasm_ast.proofs.Fitting.{maybe_longer, index_longer, type_longer}
+use Rattle.qasm_expr.proofs.Fits.{all_seen, plain_fits, sized_fits}
 use Rattle.qasm_expr.proofs.Operands.{literal_ahead, literal_some, literal_none, plain_ahead, wide_ahead, no_type}
 use Rattle.qasm_expr.proofs.parse.+expr.Goals as goal
 
@@ -264,7 +267,7 @@ pub behind_colon-range_end-requires-then-sees-2 : goal.behind_colon-range_end-re
 behind_colon-range_end-requires-then-sees-2 t c =
     let g = c.in_ok-middle.ensures.gives in
     let more = c.in_ok-middle.ensures.added in
-    (search rules, (g.3, (c.requires.cut, (omega (arith, more), (omega (arith, more), (there_longer _ _ (nodes_longer c.expr.ensures.grows) c.args.start c.requires.start, sees_below c.expr.new.names.keys c.expr.new.nodes.items g.0 c.in_ok-middle.middle.0 g.1))))))
+    (search rules, (g.3, (c.requires.cut, (omega (arith, more), (omega (arith, more), (maybe_longer _ _ (nodes_longer c.expr.ensures.grows) c.args.start c.requires.start, sees_below c.expr.new.names.keys c.expr.new.nodes.items g.0 c.in_ok-middle.middle.0 g.1))))))
 
 pub behind_colon-returns-then-sees-2-clause-gives : goal.behind_colon-returns-then-sees-2-clause-gives
 unfolding read_behind_colon
@@ -291,7 +294,7 @@ behind_colon-returns-clause-gives t c =
 pub behind_colon-returns-clause-fits : goal.behind_colon-returns-clause-fits
 behind_colon-returns-clause-fits t c =
     let g = c.in_ok-middle.ensures.gives in
-    (there_longer _ _ (nodes_longer c.expr.ensures.grows) c.args.start c.requires.start, tt, sees_below c.expr.new.names.keys c.expr.new.nodes.items g.0 c.in_ok-middle.middle.0 g.1)
+    (maybe_longer _ _ (nodes_longer c.expr.ensures.grows) c.args.start c.requires.start, tt, sees_below c.expr.new.names.keys c.expr.new.nodes.items g.0 c.in_ok-middle.middle.0 g.1)
 
 pub range_end-returns-in_err-at-clause-gives : goal.range_end-returns-in_err-at-clause-gives
 range_end-returns-in_err-at-clause-gives t c =
@@ -313,7 +316,7 @@ range_end-returns-clause-gives t c =
 pub range_end-returns-clause-fits : goal.range_end-returns-clause-fits
 range_end-returns-clause-fits t c =
     let g = c.in_ok-last.ensures.gives in
-    (there_longer _ _ (nodes_longer c.expr.ensures.grows) c.args.start c.requires.start, there_longer _ _ (nodes_longer c.expr.ensures.grows) c.args.step c.requires.step, sees_below c.expr.new.names.keys c.expr.new.nodes.items g.0 c.in_ok-last.last.0 g.1)
+    (maybe_longer _ _ (nodes_longer c.expr.ensures.grows) c.args.start c.requires.start, maybe_longer _ _ (nodes_longer c.expr.ensures.grows) c.args.step c.requires.step, sees_below c.expr.new.names.keys c.expr.new.nodes.items g.0 c.in_ok-last.last.0 g.1)
 
 pub behind_name-returns-in_err-called-clause-grows : goal.behind_name-returns-in_err-called-clause-grows
 behind_name-returns-in_err-called-clause-grows t c =
@@ -374,7 +377,7 @@ behind_name-returns-then-sees-clause-gives t c =
     let found = last_found c.list.new.nodes.items c.add.new.nodes.items _ c.in_ok-node.node.0 c.in_ok-node.ensures.items c.in_ok-node.ensures.id in
     let same : length c.list.new.nodes.items ≤ c.in_ok-node.node.0 = omega (arith, c.in_ok-node.ensures.id) in
     let all = all_wider c.list.new.names.keys c.add.new.nodes.items (length c.list.new.nodes.items) c.in_ok-node.node.0 same (trees r.0) c.in_ok-args.args.items (all_later a (trees r.0) (length c.list.new.nodes.items) c.in_ok-args.args.items r.1) in
-    (call (spelled c.args.text.now c.args.token) (trees r.0) c.args.token.at, (c.in_ok-called.called, c.in_ok-args.args.items, found, named_there, all), omega (arith, o.1, r.2, k.1), k.2, rw (paren, o.4, deeper, r.4, k.4) refl)
+    (call (bytes_of c.args.text.now c.args.token) (trees r.0) c.args.token.at, (c.in_ok-called.called, c.in_ok-args.args.items, found, named_there, all), omega (arith, o.1, r.2, k.1), k.2, rw (paren, o.4, deeper, r.4, k.4) refl)
 
 pub behind_name-returns-then-sees-clause-grows : goal.behind_name-returns-then-sees-clause-grows
 behind_name-returns-then-sees-clause-grows t c =
@@ -407,7 +410,7 @@ behind_name-returns-clause-gives t c =
     let found = last_found c.indexes.new.nodes.items c.add-2.new.nodes.items _ c.in_ok-node-2.node.0 c.in_ok-node-2.ensures.items c.in_ok-node-2.ensures.id in
     let same : length c.indexes.new.nodes.items ≤ c.in_ok-node-2.node.0 = omega (arith, c.in_ok-node-2.ensures.id) in
     let all = brackets_wider c.indexes.new.names.keys c.add-2.new.nodes.items (length c.indexes.new.nodes.items) c.in_ok-node-2.node.0 same (brackets r.0) c.in_ok-index.index.items (brackets_later a (brackets r.0) (length c.indexes.new.nodes.items) c.in_ok-index.index.items r.1) in
-    (named (word (spelled c.args.text.now c.args.token)) (brackets r.0) c.args.token.at c.args.token.at, (_, found, (c.in_ok-called.called, refl, named_there), refl, all), r.2, r.3, rw (paren, r.4) refl)
+    (named (word (bytes_of c.args.text.now c.args.token)) (brackets r.0) c.args.token.at c.args.token.at, (_, found, (c.in_ok-called.called, refl, named_there), refl, all), r.2, r.3, rw (paren, r.4) refl)
 
 pub behind_name-returns-clause-grows : goal.behind_name-returns-clause-grows
 behind_name-returns-clause-grows t c =
@@ -534,7 +537,7 @@ content-returns-clause-grows t c =
 pub indexes-brackets-init : goal.indexes-brackets-init
 indexes-brackets-init t c =
     record {
-      bracketing = bracketing_start c.args.text.now (mark_kind m.LeftBracket ∷ []) (read_index c.args.text.now c.args.room (deeper_content c.args.text.now c.args.room)) c.args.tokens.now c.args.from c.args.names.now.keys c.args.nodes.now.items c.new-found.result.items c.new-found.ensures.items c.requires.within;
+      bracketing = repeating_start c.args.text.now (mark_kind m.LeftBracket ∷ []) (read_index c.args.text.now c.args.room (deeper_content c.args.text.now c.args.room)) c.args.tokens.now c.args.from (λ js bs. SeesBrackets c.args.names.now.keys c.args.nodes.now.items (length c.args.nodes.now.items) js (brackets bs)) c.new-found.result.items c.new-found.ensures.items c.requires.within;
       fits = subst (All (IndexFits (length c.args.nodes.now.items))) (sym c.new-found.ensures.items) (All-nil (IndexFits (length c.args.nodes.now.items)));
       few = omega (arith, ap length c.new-found.ensures.items);
       grown = grows_same _ _;
@@ -548,7 +551,7 @@ indexes-returns-in_err-inside-clause-gives t c =
     let le0 : c.args.from ≤ c.brackets.at = g.from_at in
     let here = heads_sign c.args.text.now (mark_kind m.LeftBracket) (drop c.brackets.at c.args.tokens.now) true (omega arith) (sym c.sees.ensures.value ∙ c.brackets-test.true) in
     let p = err_from_is_err_and c.from_residual.result c.from_residual.ensures.1 in
-    rw (p.1, p.2) (exit_mark (λ (v : Vec IndexRef Global) (bs : List Bracket). SeesBrackets c.brackets.names.keys c.brackets.nodes.items (length c.brackets.nodes.items) v.items (brackets bs)) c.args.tokens.now c.args.from c.brackets.at (read_opener c.args.text.now c.args.room (mark_kind m.LeftBracket) (drop c.brackets.at c.args.tokens.now)) _ c.in_err-inside.field-0.0 (λ x h. bracketing_err c.args.text.now (mark_kind m.LeftBracket ∷ []) (read_index c.args.text.now c.args.room (deeper_content c.args.text.now c.args.room)) c.args.tokens.now c.args.from g here x (rw h refl)) le0 g.at_end c.in_err-inside.ensures.passes)
+    rw (p.1, p.2) (exit_mark (λ (v : Vec IndexRef Global) (bs : List Bracket). SeesBrackets c.brackets.names.keys c.brackets.nodes.items (length c.brackets.nodes.items) v.items (brackets bs)) c.args.tokens.now c.args.from c.brackets.at (read_opener c.args.text.now c.args.room (mark_kind m.LeftBracket) (drop c.brackets.at c.args.tokens.now)) _ c.in_err-inside.field-0.0 (λ x h. repeating_err c.args.text.now (mark_kind m.LeftBracket ∷ []) (read_index c.args.text.now c.args.room (deeper_content c.args.text.now c.args.room)) c.args.tokens.now c.args.from g here x (rw h refl)) le0 g.at_end c.in_err-inside.ensures.passes)
 
 pub indexes-returns-in_err-index-clause-gives : goal.indexes-returns-in_err-index-clause-gives
 unfolding read_between
@@ -558,7 +561,7 @@ indexes-returns-in_err-index-clause-gives t c =
     let here = heads_sign c.args.text.now (mark_kind m.LeftBracket) (drop c.brackets.at c.args.tokens.now) true (omega arith) (sym c.sees.ensures.value ∙ c.brackets-test.true) in
     let o = c.in_ok-inside.ensures.passes in
     let p = err_from_is_err_and c.from_residual-in_err-index.result c.from_residual-in_err-index.ensures.1 in
-    rw (p.1, p.2) (exit (SeesBracket c.content.new.names.keys c.content.new.nodes.items (length c.content.new.nodes.items)) (λ (v : Vec IndexRef Global) (bs : List Bracket). SeesBrackets c.content.new.names.keys c.content.new.nodes.items (length c.content.new.nodes.items) v.items (brackets bs)) c.args.tokens.now c.args.from c.in_ok-inside.inside (read_content c.args.text.now (c.args.room - 1) (read_expr c.args.text.now (Some 64) (c.args.room - 1)) (deeper_expr c.args.text.now (c.args.room - 1)) (drop c.in_ok-inside.inside c.args.tokens.now)) _ c.in_err-index.field-0.0 (λ x h. bracketing_err c.args.text.now (mark_kind m.LeftBracket ∷ []) (read_index c.args.text.now c.args.room (deeper_content c.args.text.now c.args.room)) c.args.tokens.now c.args.from g here x (rw (o.4, ap (λ r. r (drop c.in_ok-inside.inside c.args.tokens.now)) (deeper_content_at c.args.text.now c.args.room c.in_ok-inside.ensures.has_room), h) refl)) (omega (arith, le0, o.1)) c.in_err-index.ensures.gives)
+    rw (p.1, p.2) (exit (SeesBracket c.content.new.names.keys c.content.new.nodes.items (length c.content.new.nodes.items)) (λ (v : Vec IndexRef Global) (bs : List Bracket). SeesBrackets c.content.new.names.keys c.content.new.nodes.items (length c.content.new.nodes.items) v.items (brackets bs)) c.args.tokens.now c.args.from c.in_ok-inside.inside (read_content c.args.text.now (c.args.room - 1) (read_expr c.args.text.now (Some 64) (c.args.room - 1)) (deeper_expr c.args.text.now (c.args.room - 1)) (drop c.in_ok-inside.inside c.args.tokens.now)) _ c.in_err-index.field-0.0 (λ x h. repeating_err c.args.text.now (mark_kind m.LeftBracket ∷ []) (read_index c.args.text.now c.args.room (deeper_content c.args.text.now c.args.room)) c.args.tokens.now c.args.from g here x (rw (o.4, ap (λ r. r (drop c.in_ok-inside.inside c.args.tokens.now)) (deeper_content_at c.args.text.now c.args.room c.in_ok-inside.ensures.has_room), h) refl)) (omega (arith, le0, o.1)) c.in_err-index.ensures.gives)
 
 pub indexes-returns-in_err-index-clause-grows : goal.indexes-returns-in_err-index-clause-grows
 indexes-returns-in_err-index-clause-grows t c =
@@ -573,7 +576,7 @@ indexes-returns-in_err-next-clause-gives t c =
     let o = c.in_ok-inside.ensures.passes in
     let r = c.in_ok-index.ensures.gives in
     let p = err_from_is_err_and c.from_residual-in_err-next.result c.from_residual-in_err-next.ensures.1 in
-    rw (p.1, p.2) (exit_mark (λ (v : Vec IndexRef Global) (bs : List Bracket). SeesBrackets c.content.new.names.keys c.content.new.nodes.items (length c.content.new.nodes.items) v.items (brackets bs)) c.args.tokens.now c.args.from c.in_ok-index.next (read_sign c.args.text.now (mark_kind m.RightBracket) (drop c.in_ok-index.next c.args.tokens.now)) _ c.in_err-next.field-0.0 (λ x h. bracketing_err c.args.text.now (mark_kind m.LeftBracket ∷ []) (read_index c.args.text.now c.args.room (deeper_content c.args.text.now c.args.room)) c.args.tokens.now c.args.from g here x (rw (o.4, ap (λ r. r (drop c.in_ok-inside.inside c.args.tokens.now)) (deeper_content_at c.args.text.now c.args.room c.in_ok-inside.ensures.has_room), r.4, h) refl)) (omega (arith, le0, o.1, r.2)) r.3 c.in_err-next.ensures)
+    rw (p.1, p.2) (exit_mark (λ (v : Vec IndexRef Global) (bs : List Bracket). SeesBrackets c.content.new.names.keys c.content.new.nodes.items (length c.content.new.nodes.items) v.items (brackets bs)) c.args.tokens.now c.args.from c.in_ok-index.next (read_sign c.args.text.now (mark_kind m.RightBracket) (drop c.in_ok-index.next c.args.tokens.now)) _ c.in_err-next.field-0.0 (λ x h. repeating_err c.args.text.now (mark_kind m.LeftBracket ∷ []) (read_index c.args.text.now c.args.room (deeper_content c.args.text.now c.args.room)) c.args.tokens.now c.args.from g here x (rw (o.4, ap (λ r. r (drop c.in_ok-inside.inside c.args.tokens.now)) (deeper_content_at c.args.text.now c.args.room c.in_ok-inside.ensures.has_room), r.4, h) refl)) (omega (arith, le0, o.1, r.2)) r.3 c.in_err-next.ensures)
 
 pub indexes-returns-in_err-next-clause-grows : goal.indexes-returns-in_err-next-clause-grows
 indexes-returns-in_err-next-clause-grows t c =
@@ -597,8 +600,8 @@ indexes-brackets-preserved t c =
     let push = pushed c.push.result c.brackets.found.items c.push.new.self.items (c.brackets.found.items ++ c.in_ok-index.index ∷ []) c.push.ensures.items (sym c.is_err.ensures.value ∙ c.if-is_err.false) in
     let seen = brackets_with c.content.ensures.grows g.acc c.brackets.found.items c.push.new.self.items c.in_ok-index.index r.0 push g.sees r.1 in
     record {
-      bracketing = bracketing_more c.args.text.now (mark_kind m.LeftBracket ∷ []) (read_index c.args.text.now c.args.room (deeper_content c.args.text.now c.args.room)) c.args.tokens.now c.args.from g here c.content.new.names.keys c.content.new.nodes.items c.in_ok-next.next r.0 c.push.new.self.items seen (omega (arith, o.1, r.2, k.1)) k.2 (rw (o.4, ap (λ r. r (drop c.in_ok-inside.inside c.args.tokens.now)) (deeper_content_at c.args.text.now c.args.room c.in_ok-inside.ensures.has_room), r.4, k.4) refl);
-      fits = subst (All (IndexFits (length c.content.new.nodes.items))) (sym push) (All-push (IndexFits (length c.content.new.nodes.items)) c.brackets.found.items c.in_ok-index.index (indexes_longer (length c.brackets.nodes.items) (length c.content.new.nodes.items) (nodes_longer c.content.ensures.grows) c.brackets.found.items c.brackets.invariant.fits) c.in_ok-index.ensures.fits);
+      bracketing = repeating_more c.args.text.now (mark_kind m.LeftBracket ∷ []) (read_index c.args.text.now c.args.room (deeper_content c.args.text.now c.args.room)) c.args.tokens.now c.args.from g here (λ js bs. SeesBrackets c.content.new.names.keys c.content.new.nodes.items (length c.content.new.nodes.items) js (brackets bs)) c.in_ok-next.next r.0 c.push.new.self.items seen (omega (arith, o.1, r.2, k.1)) k.2 (rw (o.4, ap (λ r. r (drop c.in_ok-inside.inside c.args.tokens.now)) (deeper_content_at c.args.text.now c.args.room c.in_ok-inside.ensures.has_room), r.4, k.4) refl);
+      fits = subst (All (IndexFits (length c.content.new.nodes.items))) (sym push) (All-push (IndexFits (length c.content.new.nodes.items)) c.brackets.found.items c.in_ok-index.index (All-weaker (IndexFits (length c.brackets.nodes.items)) (IndexFits (length c.content.new.nodes.items)) (index_longer (length c.brackets.nodes.items) (length c.content.new.nodes.items) (nodes_longer c.content.ensures.grows)) c.brackets.found.items c.brackets.invariant.fits) c.in_ok-index.ensures.fits);
       few = omega (arith, ap length push, length-append c.brackets.found.items (c.in_ok-index.index ∷ []), o.1, r.2, k.1);
       grown = grows_on _ _ _ _ _ _ c.brackets.invariant.grown c.content.ensures.grows;
       added = (omega (arith, more, until, o.1, k.1), omega (arith, more, until, o.1, k.1));
@@ -607,7 +610,7 @@ indexes-brackets-preserved t c =
 pub indexes-returns-clause-gives : goal.indexes-returns-clause-gives
 indexes-returns-clause-gives t c =
     let g = c.brackets.invariant.bracketing in
-    (g.acc, g.sees, g.from_at, g.at_end, bracketing_stop c.args.text.now (mark_kind m.LeftBracket ∷ []) (read_index c.args.text.now c.args.room (deeper_content c.args.text.now c.args.room)) c.args.tokens.now c.args.from g (heads_sign c.args.text.now (mark_kind m.LeftBracket) (drop c.brackets.at c.args.tokens.now) false (omega arith) (sym c.sees.ensures.value ∙ c.brackets-test.false)))
+    (g.acc, g.sees, g.from_at, g.at_end, repeating_stop c.args.text.now (mark_kind m.LeftBracket ∷ []) (read_index c.args.text.now c.args.room (deeper_content c.args.text.now c.args.room)) c.args.tokens.now c.args.from g (heads_sign c.args.text.now (mark_kind m.LeftBracket) (drop c.brackets.at c.args.tokens.now) false (omega arith) (sym c.sees.ensures.value ∙ c.brackets-test.false)))
 
 pub indexes-returns-clause-fits : goal.indexes-returns-clause-fits
 indexes-returns-clause-fits t c =
@@ -616,9 +619,10 @@ indexes-returns-clause-fits t c =
     record { count = omega arith; each = c.brackets.invariant.fits }
 
 pub list-items-init : goal.list-items-init
+unfolding read_list
 list-items-init t c =
     record {
-      listing = listing_start c.args.text.now (read_expr c.args.text.now (Some 64) c.args.room) c.args.tokens.now c.args.from c.args.names.now.keys c.args.nodes.now.items c.args.filled c.new-found.result.items c.new-found.ensures.items c.requires.within;
+      listing = listing_start c.args.text.now expr_kinds (read_expr c.args.text.now (Some 64) c.args.room) c.args.tokens.now c.args.from (λ ids ts. SeesAll c.args.names.now.keys c.args.nodes.now.items (length c.args.nodes.now.items) ids (trees ts)) c.args.filled c.new-found.result.items c.new-found.ensures.items c.requires.within;
       few = omega (arith, ap length c.new-found.ensures.items);
       grown = grows_same _ _;
       added = (le_refl _, le_refl _);
@@ -628,7 +632,7 @@ pub list-returns-in_err-item-clause-gives : goal.list-returns-in_err-item-clause
 list-returns-in_err-item-clause-gives t c =
     let g = c.items.invariant.listing in
     let p = err_from_is_err_and c.from_residual.result c.from_residual.ensures.1 in
-    rw (p.1, p.2) (exit (λ (x : ExprId) (a : Tree). Sees c.expr.new.names.keys c.expr.new.nodes.items x.0 a) (λ (v : Vec ExprId Global) (ts : List Tree). SeesAll c.expr.new.names.keys c.expr.new.nodes.items (length c.expr.new.nodes.items) v.items (trees ts)) c.args.tokens.now c.args.from c.items.at ((read_expr c.args.text.now (Some 64) c.args.room) (drop c.items.at c.args.tokens.now)) _ c.in_err-item.field-0.0 (listing_err c.args.text.now (read_expr c.args.text.now (Some 64) c.args.room) c.args.tokens.now c.args.from g (sym c.may_take.ensures ∙ c.items-test.true)) g.from_at c.in_err-item.ensures.gives)
+    rw (p.1, p.2) (exit (λ (x : ExprId) (a : Tree). Sees c.expr.new.names.keys c.expr.new.nodes.items x.0 a) (λ (v : Vec ExprId Global) (ts : List Tree). SeesAll c.expr.new.names.keys c.expr.new.nodes.items (length c.expr.new.nodes.items) v.items (trees ts)) c.args.tokens.now c.args.from c.items.at ((read_expr c.args.text.now (Some 64) c.args.room) (drop c.items.at c.args.tokens.now)) _ c.in_err-item.field-0.0 (listing_err c.args.text.now expr_kinds (read_expr c.args.text.now (Some 64) c.args.room) c.args.tokens.now c.args.from g (sym c.may_take.ensures ∙ c.items-test.true)) g.from_at c.in_err-item.ensures.gives)
 
 pub list-returns-in_err-item-clause-grows : goal.list-returns-in_err-item-clause-grows
 list-returns-in_err-item-clause-grows t c =
@@ -647,7 +651,7 @@ list-returns-then-not-sees-clause-gives t c =
     let le0 : c.args.from ≤ c.items.at = g.from_at in
     let push = pushed c.push.result c.items.found.items c.push.new.self.items (c.items.found.items ++ c.in_ok-item.item ∷ []) c.push.ensures.items (sym c.is_err.ensures.value ∙ c.if-is_err.false) in
     let seen = all_with c.expr.ensures.grows g.acc c.items.found.items c.push.new.self.items c.in_ok-item.item r.0 push g.sees r.1 in
-    (g.acc ++ r.0 ∷ [], seen, omega (arith, on, le0), r.3, listing_end c.args.text.now (read_expr c.args.text.now (Some 64) c.args.room) c.args.tokens.now c.args.from g (sym c.may_take.ensures ∙ c.items-test.true) c.in_ok-item.next r.0 on r.3 r.4 (sym c.sees.ensures.value ∙ c.if-not-sees.true))
+    (g.acc ++ r.0 ∷ [], seen, omega (arith, on, le0), r.3, listing_end c.args.text.now expr_kinds (read_expr c.args.text.now (Some 64) c.args.room) c.args.tokens.now c.args.from g (sym c.may_take.ensures ∙ c.items-test.true) c.in_ok-item.next r.0 on r.3 r.4 (sym c.sees.ensures.value ∙ c.if-not-sees.true))
 
 pub list-returns-then-not-sees-clause-fits : goal.list-returns-then-not-sees-clause-fits
 list-returns-then-not-sees-clause-fits t c =
@@ -676,7 +680,7 @@ list-items-preserved t c =
     let more = c.in_ok-item.ensures.added in
     let until = c.items.invariant.added in
     record {
-      listing = listing_more c.args.text.now (read_expr c.args.text.now (Some 64) c.args.room) c.args.tokens.now c.args.from g (sym c.may_take.ensures ∙ c.items-test.true) c.expr.new.names.keys c.expr.new.nodes.items c.in_ok-item.next r.0 c.push.new.self.items seen on r.3 r.4 (sym c.sees.ensures.value ∙ c.if-not-sees.false);
+      listing = listing_more c.args.text.now expr_kinds (read_expr c.args.text.now (Some 64) c.args.room) c.args.tokens.now c.args.from g (sym c.may_take.ensures ∙ c.items-test.true) (λ ids ts. SeesAll c.expr.new.names.keys c.expr.new.nodes.items (length c.expr.new.nodes.items) ids (trees ts)) c.in_ok-item.next r.0 c.push.new.self.items seen on r.3 r.4 (sym c.sees.ensures.value ∙ c.if-not-sees.false);
       few = omega (arith, ap length push, length-append c.items.found.items (c.in_ok-item.item ∷ []), on);
       grown = grows_on _ _ _ _ _ _ c.items.invariant.grown c.expr.ensures.grows;
       added = (omega (arith, more, until), omega (arith, more, until));
@@ -685,7 +689,7 @@ list-items-preserved t c =
 pub list-returns-clause-gives : goal.list-returns-clause-gives
 list-returns-clause-gives t c =
     let g = c.items.invariant.listing in
-    (g.acc, g.sees, g.from_at, g.at_end, listing_stop c.args.text.now (read_expr c.args.text.now (Some 64) c.args.room) c.args.tokens.now c.args.from g (sym c.may_take.ensures ∙ c.items-test.false))
+    (g.acc, g.sees, g.from_at, g.at_end, listing_stop c.args.text.now expr_kinds (read_expr c.args.text.now (Some 64) c.args.room) c.args.tokens.now c.args.from g (sym c.may_take.ensures ∙ c.items-test.false))
 
 pub list-returns-clause-fits : goal.list-returns-clause-fits
 list-returns-clause-fits t c =
@@ -731,7 +735,7 @@ prim-returns-in_err-token-clause-gives t c =
     let paren = heads_sign c.args.text.now (mark_kind m.LeftParen) (drop c.args.from c.args.tokens.now) false (omega arith) (sym c.sees.ensures.value ∙ c.if-sees.false) in
     let types = sym c.begins_type.ensures ∙ c.if-begins_type.false in
     let p = err_from_is_err_and c.from_residual-in_err-token.result c.from_residual-in_err-token.ensures.1 in
-    rw (p.1, p.2) (exit (λ (x : Token) (a : List ℕ × Span). (a ≡ (spelled c.args.text.now x, x.at)) × (x.start ≤ x.end) × (x.end ≤ length c.args.text.now) × (length (spelled c.args.text.now x) ≤ 4096)) (λ (x : ExprId) (a : Tree). Sees c.args.names.now.keys c.args.nodes.now.items x.0 a) c.args.tokens.now c.args.from c.args.from (take_one (name_of c.args.text.now) (drop c.args.from c.args.tokens.now)) _ c.in_err-token.field-0.0 (λ x h. rw (none, paren, types, h) refl) (le_refl _) c.in_err-token.ensures.gives)
+    rw (p.1, p.2) (exit (λ (x : Token) (a : List ℕ × Span). (a ≡ (bytes_of c.args.text.now x, x.at)) × (x.start ≤ x.end) × (x.end ≤ length c.args.text.now) × (length (bytes_of c.args.text.now x) ≤ 4096)) (λ (x : ExprId) (a : Tree). Sees c.args.names.now.keys c.args.nodes.now.items x.0 a) c.args.tokens.now c.args.from c.args.from (take_one (name_of c.args.text.now) (drop c.args.from c.args.tokens.now)) _ c.in_err-token.field-0.0 (λ x h. rw (none, paren, types, h) refl) (le_refl _) c.in_err-token.ensures.gives)
 
 pub prim-returns-clause-gives : goal.prim-returns-clause-gives
 unfolding read_prim
@@ -740,7 +744,7 @@ prim-returns-clause-gives t c =
     let paren = heads_sign c.args.text.now (mark_kind m.LeftParen) (drop c.args.from c.args.tokens.now) false (omega arith) (sym c.sees.ensures.value ∙ c.if-sees.false) in
     let types = sym c.begins_type.ensures ∙ c.if-begins_type.false in
     let g = c.in_ok-token.ensures.gives in
-    behind (λ (x : ExprId) (a : Tree). Sees c.behind_name.new.names.keys c.behind_name.new.nodes.items x.0 a) c.args.tokens.now c.args.from c.in_ok-token.at (read_prim c.args.text.now c.args.room (deeper_expr c.args.text.now c.args.room) (deeper_content c.args.text.now c.args.room) (drop c.args.from c.args.tokens.now)) (read_behind_name c.args.text.now c.args.room (deeper_expr c.args.text.now c.args.room) (deeper_content c.args.text.now c.args.room) (spelled c.args.text.now c.in_ok-token.token, c.in_ok-token.token.at) (drop c.in_ok-token.at c.args.tokens.now)) c.behind_name.result g.2 (rw (none, paren, types, g.4) (ap (λ z. read_behind_name c.args.text.now c.args.room (deeper_expr c.args.text.now c.args.room) (deeper_content c.args.text.now c.args.room) z (drop c.in_ok-token.at c.args.tokens.now)) g.1.0)) c.behind_name.ensures.gives
+    behind (λ (x : ExprId) (a : Tree). Sees c.behind_name.new.names.keys c.behind_name.new.nodes.items x.0 a) c.args.tokens.now c.args.from c.in_ok-token.at (read_prim c.args.text.now c.args.room (deeper_expr c.args.text.now c.args.room) (deeper_content c.args.text.now c.args.room) (drop c.args.from c.args.tokens.now)) (read_behind_name c.args.text.now c.args.room (deeper_expr c.args.text.now c.args.room) (deeper_content c.args.text.now c.args.room) (bytes_of c.args.text.now c.in_ok-token.token, c.in_ok-token.token.at) (drop c.in_ok-token.at c.args.tokens.now)) c.behind_name.result g.2 (rw (none, paren, types, g.4) (ap (λ z. read_behind_name c.args.text.now c.args.room (deeper_expr c.args.text.now c.args.room) (deeper_content c.args.text.now c.args.room) z (drop c.in_ok-token.at c.args.tokens.now)) g.1.0)) c.behind_name.ensures.gives
 
 pub scalar-returns-in-Some-clause-gives : goal.scalar-returns-in-Some-clause-gives
 scalar-returns-in-Some-clause-gives t c =

@@ -1,10 +1,11 @@
 use Rattle.std.proofs.Common.{◌+◌, ◌-◌, ◌*◌, ◌≤◌, Some, length, drop, ◌∷◌, []}
 use Rattle.qasm_lexer.specs.declared.token.Mark.TheVariants as m
 use Rattle.qasm_expr.specs.TokenKinds.{mark_kind}
-use Rattle.qasm_expr.specs.Reader.{read_expr, read_unary, read_binary, read_index, read_indexes, read_list}
-use Rattle.qasm_expr.specs.Seen.{Grows, Added, deeper_content, tighter, rows_at}
+use Rattle.qasm_expr.specs.Reader.{expr_kinds, read_expr, read_unary, read_binary, read_index, read_indexes, read_list}
+use Rattle.qasm_ast.specs.Tree.{trees, brackets}
+use Rattle.qasm_expr.specs.Seen.{SeesAll, SeesBrackets, Grows, Added, deeper_content, tighter, rows_at}
 use Rattle.qasm_expr.proofs.Chains.{Going}
-use Rattle.qasm_expr.proofs.Lists.{Bracketing, Listing}
+use Rattle.qasm_expr.proofs.Loops.{Repeating, Listing}
 use Rattle.std.specs.Prelude.{All}
 use Rattle.qasm_ast.specs.Whole.{IndexFits}
 use Rattle.qasm_expr.proofs.parse.+expr.Given as goal
@@ -60,7 +61,7 @@ decreases-binary-loop-op l = length l.tokens - l.at
 
 abbrev pub invariant-indexes-brackets : goal.invariant-indexes-brackets
 invariant-indexes-brackets l = record {
-  bracketing : Bracketing l.text (mark_kind m.LeftBracket ∷ []) (read_index l.text l.room (deeper_content l.text l.room)) l.tokens l.names.keys l.nodes.items l.from (read_indexes l.text l.room (deeper_content l.text l.room) (drop l.from l.tokens)) l.found.items l.at;
+  bracketing : Repeating l.text (mark_kind m.LeftBracket ∷ []) (read_index l.text l.room (deeper_content l.text l.room)) l.tokens (λ js bs. SeesBrackets l.names.keys l.nodes.items (length l.nodes.items) js (brackets bs)) l.from (read_indexes l.text l.room (deeper_content l.text l.room) (drop l.from l.tokens)) l.found.items l.at;
   fits : All (IndexFits (length l.nodes.items)) l.found.items;
   few : length l.found.items + l.from ≤ l.at;
   grown : Grows l.fn.names.keys l.names.keys l.fn.nodes.items l.nodes.items;
@@ -72,7 +73,7 @@ decreases-indexes-brackets l = length l.tokens - l.at
 
 abbrev pub invariant-list-items : goal.invariant-list-items
 invariant-list-items l = record {
-  listing : Listing l.text (read_expr l.text (Some 64) l.room) l.tokens l.names.keys l.nodes.items l.from (read_list l.text l.filled (read_expr l.text (Some 64) l.room) (drop l.from l.tokens)) l.first l.found.items l.at;
+  listing : Listing l.text expr_kinds (read_expr l.text (Some 64) l.room) l.tokens (λ ids ts. SeesAll l.names.keys l.nodes.items (length l.nodes.items) ids (trees ts)) l.from (read_list l.text l.filled (read_expr l.text (Some 64) l.room) (drop l.from l.tokens)) l.first l.found.items l.at;
   few : length l.found.items + l.from ≤ l.at;
   grown : Grows l.fn.names.keys l.names.keys l.fn.nodes.items l.nodes.items;
   added : Added (length l.fn.names.keys) (length l.names.keys) (length l.fn.nodes.items) (length l.nodes.items) l.from l.at;

@@ -3,11 +3,11 @@ use Rattle.qasm_lexer.specs.declared.token.Keyword.TheVariants as k
 use Rattle.qasm_ast.specs.Tree.{break, continue, end}
 use Rattle.grammar_parts.specs.Reading.{take_one, and_then}
 use Rattle.qasm_expr.specs.Grammar.{name_of}
-use Rattle.qasm_expr.proofs.Exits.{behind}
+use Rattle.qasm_expr.proofs.Exits.{behind, handed}
 use Rattle.qasm_grammar.specs.Reader.{read_word_line, read_barrier_line, read_reset_line, read_measure_line, read_return_line, read_call_line, read_behind_name, read_action}
 use Rattle.qasm_stmt.specs.Seen.{IsLine}
-use Rattle.qasm_stmt.proofs.Calling.{name_read, name_refused}
-use Rattle.qasm_stmt.proofs.Lines.{leave, word_heads}
+use Rattle.qasm_stmt.proofs.Spellings.{word_read, word_refused}
+use Rattle.qasm_stmt.proofs.Lines.{word_heads}
 use Rattle.qasm_stmt.proofs.actions.action.Goals.{then-begins_change-via-then-begins_change, then-begins_change-via-else-begins_change+then-sees_word-8}
 use Rattle.qasm_stmt.proofs.actions.action.Goals as goal
 
@@ -106,7 +106,7 @@ returns-in_err-name-clause-gives c =
     let no_return = word_heads c.args.text.now (drop c.args.from c.args.tokens.now) k.Return false (sym c.sees_word-7.ensures.value ∙ c.if-sees_word-7.false) in
     let no_change = sym c.begins_change.ensures ∙ c.if-begins_change.false in
     let no_phase = word_heads c.args.text.now (drop c.args.from c.args.tokens.now) k.Gphase false (sym c.sees_word-else-begins_change.ensures.value ∙ c.if-sees_word-8.false) in
-    leave _ _ _ _ _ _ _ c.from_residual.ensures.1 _ (λ x h. rw (no_barrier, no_reset, no_measure, no_break, no_continue, no_end, no_return, no_change, no_phase, name_refused (take_one (name_of c.args.text.now) (drop c.args.from c.args.tokens.now)) x h) refl) (le_refl _) c.in_err-name.ensures.gives
+    handed _ _ _ _ c.from_residual.ensures c.in_err-name.ensures.gives (le_refl _) (λ x h. rw (no_barrier, no_reset, no_measure, no_break, no_continue, no_end, no_return, no_change, no_phase, word_refused c.args.text.now (drop c.args.from c.args.tokens.now) x h) refl)
 
 pub returns-clause-gives : goal.returns-clause-gives
 unfolding read_action
@@ -121,5 +121,5 @@ returns-clause-gives c =
     let no_change = sym c.begins_change.ensures ∙ c.if-begins_change.false in
     let no_phase = word_heads c.args.text.now (drop c.args.from c.args.tokens.now) k.Gphase false (sym c.sees_word-else-begins_change.ensures.value ∙ c.if-sees_word-8.false) in
     let g = c.in_ok-name.ensures.gives in
-    let w = name_read (take_one (name_of c.args.text.now) (drop c.args.from c.args.tokens.now)) g.0 (drop c.in_ok-name.next c.args.tokens.now) g.4 in
-    behind (IsLine c.behind_name.new.arena) c.args.tokens.now c.args.from c.in_ok-name.next _ (read_behind_name c.args.text.now (Some 64) c.args.room w.0 (drop c.in_ok-name.next c.args.tokens.now)) c.behind_name.result g.2 (rw (no_barrier, no_reset, no_measure, no_break, no_continue, no_end, no_return, no_change, no_phase) (ap (λ o. and_then o (read_behind_name c.args.text.now (Some 64) c.args.room)) w.1)) (c.behind_name.ensures.gives w.0 (g.1.0, g.1.1 ∙ sym w.2))
+    let read = word_read c.args.text.now (drop c.args.from c.args.tokens.now) g.0 (drop c.in_ok-name.next c.args.tokens.now) g.4 in
+    behind (IsLine c.behind_name.new.arena) c.args.tokens.now c.args.from c.in_ok-name.next _ (read_behind_name c.args.text.now (Some 64) c.args.room (g.0.text, g.0.place) (drop c.in_ok-name.next c.args.tokens.now)) c.behind_name.result g.2 (rw (no_barrier, no_reset, no_measure, no_break, no_continue, no_end, no_return, no_change, no_phase) (ap (λ o. and_then o (read_behind_name c.args.text.now (Some 64) c.args.room)) read)) (c.behind_name.ensures.gives (g.0.text, g.0.place) (g.1.0, g.1.1 ∙ sym refl))

@@ -7,21 +7,22 @@ use Rattle.qasm_expr.proofs.Places.{heads_sign}
 use Rattle.qasm_grammar.specs.Grammar.{assign_operators, at_one}
 use Rattle.qasm_grammar.specs.Reader.{read_assigned}
 use Rattle.qasm_stmt.proofs.Growing.{operand_later}
-use Rattle.qasm_stmt.proofs.Lines.{leave, leave_mark, line_shows, mark_seen, picked_seen}
+use Rattle.qasm_expr.proofs.Exits.{handed, handed_mark}
+use Rattle.qasm_stmt.proofs.Lines.{line_shows, mark_seen, picked_seen}
 use Rattle.qasm_stmt.proofs.actions.assigned.Goals as goal
 
 pub returns-in_err-found-clause-gives : goal.returns-in_err-found-clause-gives
 unfolding read_assigned
 returns-in_err-found-clause-gives c = λ o h.
     let s = mark_seen c.args.text.now c.args.tokens.now c.args.from (mark_kind m.Assign) (lit< tt) c.requires.within (sym c.sees.ensures.value ∙ c.if-sees.true) in
-    leave _ _ _ _ _ _ _ c.from_residual.ensures.1 _ (λ x h. rw (s.1, s.3, h) refl) (omega arith) c.in_err-found.ensures.gives
+    handed _ _ _ _ c.from_residual.ensures c.in_err-found.ensures.gives (omega arith) (λ x h. rw (s.1, s.3, h) refl)
 
 pub returns-in_err-next-clause-gives : goal.returns-in_err-next-clause-gives
 unfolding read_assigned
 returns-in_err-next-clause-gives c = λ o h.
     let s = mark_seen c.args.text.now c.args.tokens.now c.args.from (mark_kind m.Assign) (lit< tt) c.requires.within (sym c.sees.ensures.value ∙ c.if-sees.true) in
     let v = c.in_ok-found.ensures.gives in
-    leave_mark _ _ _ _ _ _ _ c.from_residual-in_err-next.ensures.1 _ (λ x h. rw (s.1, s.3, v.4, h) refl) (omega arith) v.3 c.in_err-next.ensures
+    handed_mark _ _ _ _ c.from_residual-in_err-next.ensures c.in_err-next.ensures (omega arith) v.3 (λ x h. rw (s.1, s.3, v.4, h) refl)
 
 pub returns-then-sees-clause-gives : goal.returns-then-sees-clause-gives
 unfolding read_assigned
@@ -44,7 +45,7 @@ unfolding read_assigned
 returns-in_err-found-2-clause-gives c = λ o h.
     let shut = heads_sign c.args.text.now (mark_kind m.Assign) (drop c.args.from c.args.tokens.now) false (lit< tt) (sym c.sees.ensures.value ∙ c.if-sees.false) in
     let p = picked_seen c.args.text.now assign_operators c.args.tokens.now c.args.from c.in-Some.op c.requires.within refl (sym c.assigning_operator.ensures.value ∙ c.in-Some.is) in
-    leave _ _ _ _ _ _ _ c.from_residual-in_err-found-2.ensures.1 _ (λ x h. rw (shut, p.2, h) refl) (omega arith) c.in_err-found-2.ensures.gives
+    handed _ _ _ _ c.from_residual-in_err-found-2.ensures c.in_err-found-2.ensures.gives (omega arith) (λ x h. rw (shut, p.2, h) refl)
 
 pub returns-in_err-next-2-clause-gives : goal.returns-in_err-next-2-clause-gives
 unfolding read_assigned
@@ -52,7 +53,7 @@ returns-in_err-next-2-clause-gives c = λ o h.
     let shut = heads_sign c.args.text.now (mark_kind m.Assign) (drop c.args.from c.args.tokens.now) false (lit< tt) (sym c.sees.ensures.value ∙ c.if-sees.false) in
     let p = picked_seen c.args.text.now assign_operators c.args.tokens.now c.args.from c.in-Some.op c.requires.within refl (sym c.assigning_operator.ensures.value ∙ c.in-Some.is) in
     let e = c.in_ok-found-2.ensures.gives in
-    leave_mark _ _ _ _ _ _ _ c.from_residual-in_err-next-2.ensures.1 _ (λ x h. rw (shut, p.2, e.4, h) refl) (omega arith) e.3 c.in_err-next-2.ensures
+    handed_mark _ _ _ _ c.from_residual-in_err-next-2.ensures c.in_err-next-2.ensures (omega arith) e.3 (λ x h. rw (shut, p.2, e.4, h) refl)
 
 pub returns-clause-gives : goal.returns-clause-gives
 unfolding read_assigned

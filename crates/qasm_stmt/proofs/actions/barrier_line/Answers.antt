@@ -2,26 +2,27 @@ use Rattle.std.proofs.Common.{refl, le_refl, arith}
 use Rattle.qasm_ast.specs.Tree.{barrier}
 use Rattle.qasm_grammar.specs.Reader.{read_any_operands, read_barrier_line}
 use Rattle.qasm_grammar.specs.Grammar.{at_one}
-use Rattle.qasm_stmt.proofs.Lines.{leave, leave_mark, line_shows, operands_whole}
+use Rattle.qasm_expr.proofs.Exits.{handed, handed_mark}
+use Rattle.qasm_stmt.proofs.Lines.{line_shows, operands_whole}
 use Rattle.qasm_stmt.proofs.actions.barrier_line.Goals as goal
 
 pub returns-in_err-at-clause-gives : goal.returns-in_err-at-clause-gives
 unfolding read_barrier_line read_any_operands
 returns-in_err-at-clause-gives c =
-    leave _ _ _ _ _ _ _ c.from_residual.ensures.1 _ (λ x h. rw h refl) (le_refl _) c.in_err-at.ensures.gives
+    handed _ _ _ _ c.from_residual.ensures c.in_err-at.ensures.gives (le_refl _) (λ x h. rw h refl)
 
 pub returns-in_err-found-clause-gives : goal.returns-in_err-found-clause-gives
 unfolding read_barrier_line read_any_operands
 returns-in_err-found-clause-gives c =
     let w = c.in_ok-at.ensures.gives in
-    leave _ _ _ _ _ _ _ c.from_residual-in_err-found.ensures.1 _ (λ x h. rw (w.4, h) refl) w.2 c.in_err-found.ensures.gives
+    handed _ _ _ _ c.from_residual-in_err-found.ensures c.in_err-found.ensures.gives w.2 (λ x h. rw (w.4, h) refl)
 
 pub returns-in_err-next-clause-gives : goal.returns-in_err-next-clause-gives
 unfolding read_barrier_line read_any_operands
 returns-in_err-next-clause-gives c =
     let w = c.in_ok-at.ensures.gives in
     let o = c.in_ok-found.ensures.gives in
-    leave_mark _ _ _ _ _ _ _ c.from_residual-in_err-next.ensures.1 _ (λ x h. rw (w.4, o.4, h) refl) (omega arith) o.3 c.in_err-next.ensures
+    handed_mark _ _ _ _ c.from_residual-in_err-next.ensures c.in_err-next.ensures (omega arith) o.3 (λ x h. rw (w.4, o.4, h) refl)
 
 pub returns-clause-gives : goal.returns-clause-gives
 unfolding read_barrier_line read_any_operands

@@ -2,7 +2,7 @@ use Rattle.std.proofs.Common.{[], Some, false, drop, refl, sym, subst, ◌∙◌
 use Rattle.qasm_lexer.specs.declared.token.Mark.TheVariants as m
 use Rattle.qasm_ast.specs.Tree.{call, trees, invoke}
 use Rattle.qasm_expr.specs.TokenKinds.{mark_kind}
-use Rattle.qasm_expr.proofs.Exits.{behind}
+use Rattle.qasm_expr.proofs.Exits.{behind, handed}
 use Rattle.qasm_expr.proofs.Places.{heads_sign}
 use Rattle.qasm_grammar.specs.Grammar.{at_one}
 use Rattle.qasm_grammar.specs.Parts.{declared as named, operand_at, call_statement}
@@ -10,14 +10,14 @@ use Rattle.qasm_grammar.specs.Reader.{read_assigned, read_assignment, read_behin
 use Rattle.qasm_stmt.specs.Seen.{IsList, IsTree, IsLine}
 use Rattle.qasm_stmt.proofs.Calling.{target_shows, call_shows, with_call, with_call_sound, invoke_shows}
 use Rattle.qasm_stmt.proofs.Growing.{name_later}
-use Rattle.qasm_stmt.proofs.Lines.{leave, line_shows, mark_seen}
+use Rattle.qasm_stmt.proofs.Lines.{line_shows, mark_seen}
 use Rattle.qasm_stmt.proofs.actions.behind_name.Goals as goal
 
 pub returns-in_err-index-clause-gives : goal.returns-in_err-index-clause-gives
 unfolding read_behind_name read_assignment
 returns-in_err-index-clause-gives c = λ x h.
     let begun = sym c.begins_assignment.ensures ∙ c.if-begins_assignment.true in
-    leave _ _ _ _ _ _ _ c.from_residual.ensures.1 _ (λ y k. rw (begun, k) refl) (le_refl _) c.in_err-index.ensures.gives
+    handed _ _ _ _ c.from_residual.ensures c.in_err-index.ensures.gives (le_refl _) (λ y k. rw (begun, k) refl)
 
 pub returns-then-begins_assignment-clause-gives : goal.returns-then-begins_assignment-clause-gives
 unfolding read_behind_name read_assignment
@@ -33,7 +33,7 @@ returns-in_err-found-clause-gives c = λ x h.
     let no = sym c.begins_assignment.ensures ∙ c.if-begins_assignment.false in
     let shut = heads_sign c.args.text.now (mark_kind m.LeftParen) (drop c.args.from c.args.tokens.now) false (lit< tt) (sym c.sees.ensures.value ∙ c.if-not-sees.true) in
     let none = subst (λ l. IsList (IsTree c.args.arena.now) l []) (sym c.new.ensures.items) (omega arith, tt) in
-    leave _ _ _ _ _ _ _ c.from_residual-in_err-found.ensures.1 _ (λ y k. rw (no, shut, k) refl) (le_refl _) (c.in_err-found.ensures.gives (named x) [] h none)
+    handed _ _ _ _ c.from_residual-in_err-found.ensures (c.in_err-found.ensures.gives (named x) [] h none) (le_refl _) (λ y k. rw (no, shut, k) refl)
 
 pub returns-then-not-sees-clause-gives : goal.returns-then-not-sees-clause-gives
 unfolding read_behind_name
@@ -49,7 +49,7 @@ unfolding read_behind_name
 returns-in_err-args-clause-gives c = λ x h.
     let no = sym c.begins_assignment.ensures ∙ c.if-begins_assignment.false in
     let s = mark_seen c.args.text.now c.args.tokens.now c.args.from (mark_kind m.LeftParen) (lit< tt) c.requires.within (sym c.sees.ensures.value ∙ c.if-not-sees.false) in
-    leave _ _ _ _ _ _ _ c.from_residual-in_err-args.ensures.1 _ (λ y k. rw (no, s.1, k) refl) (le_refl _) c.in_err-args.ensures.gives
+    handed _ _ _ _ c.from_residual-in_err-args.ensures c.in_err-args.ensures.gives (le_refl _) (λ y k. rw (no, s.1, k) refl)
 
 pub returns-then-sees-clause-gives : goal.returns-then-sees-clause-gives
 unfolding read_behind_name
@@ -76,7 +76,7 @@ returns-in_err-found-2-clause-gives c = λ x h.
     let es = c.in_ok-args.ensures.gives in
     let n = name_later c.requires.sound c.in_ok-args.ensures.grown _ _ h in
     let shut = heads_sign c.args.text.now (mark_kind m.Semicolon) (drop c.in_ok-args.next c.args.tokens.now) false (lit< tt) (sym c.sees-2.ensures.value ∙ c.if-sees.false) in
-    leave _ _ _ _ _ _ _ c.from_residual-in_err-found-2.ensures.1 _ (λ y k. rw (no, s.1, es.4, shut, k) refl) es.2 (c.in_err-found-2.ensures.gives (named x) es.0 n es.1)
+    handed _ _ _ _ c.from_residual-in_err-found-2.ensures (c.in_err-found-2.ensures.gives (named x) es.0 n es.1) es.2 (λ y k. rw (no, s.1, es.4, shut, k) refl)
 
 pub returns-clause-gives : goal.returns-clause-gives
 unfolding read_behind_name

@@ -4,7 +4,7 @@ use Rattle.qasm_grammar.specs.Reader.{read_applied, read_operands}
 use Rattle.qasm_stmt.specs.Seen.{IsTree, IsChange}
 use Rattle.qasm_stmt.proofs.Filling.{no_items, list_later}
 use Rattle.qasm_stmt.proofs.Growing.{name_later, tree_later}
-use Rattle.qasm_stmt.proofs.Handing.{handed, handed_mark}
+use Rattle.qasm_expr.proofs.Exits.{handed, handed_mark}
 use Rattle.qasm_stmt.proofs.calls.applied.Goals as goal
 
 pub returns-in_err-operands-clause-gives : goal.returns-in_err-operands-clause-gives

@@ -4,7 +4,7 @@ use Rattle.qasm_stmt.specs.Seen.{IsChange}
 use Rattle.qasm_stmt.proofs.Changes.{changing_start, changing_full, changing_err, changing_at, changing_more, changing_plain, changing_end}
 use Rattle.qasm_stmt.proofs.Filling.{each_more, list_later}
 use Rattle.qasm_stmt.proofs.Growing.{grown_same, grown_on, change_later}
-use Rattle.qasm_stmt.proofs.Handing.{handed, handed_mark}
+use Rattle.qasm_expr.proofs.Exits.{handed, handed_mark}
 use Rattle.qasm_stmt.proofs.calls.call.Goals as goal
 
 pub mods-init : goal.mods-init

@@ -6,7 +6,7 @@ use Rattle.qasm_expr.specs.TokenKinds.{keyword_kind, mark_kind}
 use Rattle.qasm_expr.proofs.Places.{heads_sign}
 use Rattle.qasm_grammar.specs.Reader.{read_modifier}
 use Rattle.qasm_stmt.proofs.Growing.{grown_same}
-use Rattle.qasm_stmt.proofs.Handing.{handed}
+use Rattle.qasm_expr.proofs.Exits.{handed}
 use Rattle.qasm_stmt.proofs.calls.modifier.Goals as goal
 
 pub returns-then-sees_word-clause-gives : goal.returns-then-sees_word-clause-gives

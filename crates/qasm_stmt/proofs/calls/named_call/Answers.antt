@@ -2,13 +2,12 @@ use Rattle.std.proofs.Common.{true, false, [], drop, le_refl, refl, sym, ◌∙�
 use Rattle.std.proofs.lemmas.Result.{on_ok_weaker}
 use Rattle.qasm_lexer.specs.declared.token.Mark.TheVariants as m
 use Rattle.qasm_expr.specs.TokenKinds.{mark_kind}
-use Rattle.qasm_expr.proofs.Exits.{behind}
+use Rattle.qasm_expr.proofs.Exits.{behind, handed}
 use Rattle.qasm_expr.proofs.Places.{heads_sign}
 use Rattle.qasm_grammar.specs.Reader.{read_named_call}
 use Rattle.qasm_stmt.specs.Seen.{IsTree}
 use Rattle.qasm_stmt.proofs.Filling.{no_items}
 use Rattle.qasm_stmt.proofs.Growing.{grown_on, name_later}
-use Rattle.qasm_stmt.proofs.Handing.{handed}
 use Rattle.qasm_stmt.proofs.calls.named_call.Goals as goal
 
 pub returns-in_err-gate-clause-gives : goal.returns-in_err-gate-clause-gives

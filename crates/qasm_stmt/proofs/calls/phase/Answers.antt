@@ -8,7 +8,7 @@ use Rattle.qasm_stmt.specs.declared.arena.Arena.{Arena}
 use Rattle.qasm_stmt.specs.Seen.{IsTree, IsName, IsChange}
 use Rattle.qasm_stmt.proofs.Filling.{no_items, one_item}
 use Rattle.qasm_stmt.proofs.Growing.{grown_on, grown_by, sound_by, name_later, tree_later}
-use Rattle.qasm_stmt.proofs.Handing.{handed, handed_mark}
+use Rattle.qasm_expr.proofs.Exits.{handed, handed_mark}
 use Rattle.qasm_stmt.proofs.calls.phase.Goals as goal
 
 pub returns-in_err-place-clause-gives : goal.returns-in_err-place-clause-gives

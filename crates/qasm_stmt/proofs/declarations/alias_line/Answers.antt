@@ -5,26 +5,27 @@ use Rattle.qasm_expr.proofs.Units.{pushed}
 use Rattle.qasm_grammar.specs.Grammar.{at_one}
 use Rattle.qasm_stmt.specs.Seen.{IsList, IsOperand}
 use Rattle.qasm_stmt.proofs.Growing.{grown_on, name_later, operand_later}
-use Rattle.qasm_stmt.proofs.Lines.{leave, leave_mark, line_shows, operands_whole}
+use Rattle.qasm_expr.proofs.Exits.{handed, handed_mark}
+use Rattle.qasm_stmt.proofs.Lines.{line_shows, operands_whole}
 use Rattle.qasm_stmt.proofs.declarations.alias_line.Goals as goal
 
 pub returns-in_err-at-clause-gives : goal.returns-in_err-at-clause-gives
 unfolding read_alias_line
 returns-in_err-at-clause-gives c =
-    leave _ _ _ _ _ _ _ c.from_residual.ensures.1 _ (λ x h. rw h refl) (le_refl _) c.in_err-at.ensures.gives
+    handed _ _ _ _ c.from_residual.ensures c.in_err-at.ensures.gives (le_refl _) (λ x h. rw h refl)
 
 pub returns-in_err-name-clause-gives : goal.returns-in_err-name-clause-gives
 unfolding read_alias_line
 returns-in_err-name-clause-gives c =
     let w = c.in_ok-at.ensures.gives in
-    leave _ _ _ _ _ _ _ c.from_residual-in_err-name.ensures.1 _ (λ x h. rw (w.4, h) refl) w.2 c.in_err-name.ensures.gives
+    handed _ _ _ _ c.from_residual-in_err-name.ensures c.in_err-name.ensures.gives w.2 (λ x h. rw (w.4, h) refl)
 
 pub returns-in_err-next-clause-gives : goal.returns-in_err-next-clause-gives
 unfolding read_alias_line
 returns-in_err-next-clause-gives c =
     let w = c.in_ok-at.ensures.gives in
     let n = c.in_ok-name.ensures.gives in
-    leave_mark _ _ _ _ _ _ _ c.from_residual-in_err-next.ensures.1 _ (λ x h. rw (w.4, n.4, h) refl) (omega arith) n.3 c.in_err-next.ensures
+    handed_mark _ _ _ _ c.from_residual-in_err-next.ensures c.in_err-next.ensures (omega arith) n.3 (λ x h. rw (w.4, n.4, h) refl)
 
 pub returns-in_err-first-clause-gives : goal.returns-in_err-first-clause-gives
 unfolding read_alias_line
@@ -32,7 +33,7 @@ returns-in_err-first-clause-gives c =
     let w = c.in_ok-at.ensures.gives in
     let n = c.in_ok-name.ensures.gives in
     let a = c.in_ok-next.ensures in
-    leave _ _ _ _ _ _ _ c.from_residual-in_err-first.ensures.1 _ (λ x h. rw (w.4, n.4, a.4, h) refl) (omega arith) c.in_err-first.ensures.gives
+    handed _ _ _ _ c.from_residual-in_err-first.ensures c.in_err-first.ensures.gives (omega arith) (λ x h. rw (w.4, n.4, a.4, h) refl)
 
 pub returns-in_err-operands-clause-gives : goal.returns-in_err-operands-clause-gives
 unfolding read_alias_line
@@ -41,7 +42,7 @@ returns-in_err-operands-clause-gives c =
     let n = c.in_ok-name.ensures.gives in
     let a = c.in_ok-next.ensures in
     let o = c.in_ok-first.ensures.gives in
-    leave _ _ _ _ _ _ _ c.from_residual-in_err-operands.ensures.1 _ (λ x h. rw (w.4, n.4, a.4, o.4, h) refl) (omega arith) c.in_err-operands.ensures.gives
+    handed _ _ _ _ c.from_residual-in_err-operands.ensures c.in_err-operands.ensures.gives (omega arith) (λ x h. rw (w.4, n.4, a.4, o.4, h) refl)
 
 pub returns-in_err-next-2-clause-gives : goal.returns-in_err-next-2-clause-gives
 unfolding read_alias_line
@@ -51,7 +52,7 @@ returns-in_err-next-2-clause-gives c =
     let a = c.in_ok-next.ensures in
     let o = c.in_ok-first.ensures.gives in
     let j = c.in_ok-operands.ensures.gives in
-    leave_mark _ _ _ _ _ _ _ c.from_residual-in_err-next-2.ensures.1 _ (λ x h. rw (w.4, n.4, a.4, o.4, j.4, h) refl) (omega arith) j.3 c.in_err-next-2.ensures
+    handed_mark _ _ _ _ c.from_residual-in_err-next-2.ensures c.in_err-next-2.ensures (omega arith) j.3 (λ x h. rw (w.4, n.4, a.4, o.4, j.4, h) refl)
 
 pub returns-clause-gives : goal.returns-clause-gives
 unfolding read_alias_line

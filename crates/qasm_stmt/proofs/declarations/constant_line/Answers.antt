@@ -3,26 +3,27 @@ use Rattle.qasm_ast.specs.Tree.{constant}
 use Rattle.qasm_grammar.specs.Reader.{read_constant_line}
 use Rattle.qasm_grammar.specs.Grammar.{at_one}
 use Rattle.qasm_stmt.proofs.Growing.{grown_on, name_later, type_later}
-use Rattle.qasm_stmt.proofs.Lines.{leave, leave_mark, line_shows}
+use Rattle.qasm_expr.proofs.Exits.{handed, handed_mark}
+use Rattle.qasm_stmt.proofs.Lines.{line_shows}
 use Rattle.qasm_stmt.proofs.declarations.constant_line.Goals as goal
 
 pub returns-in_err-at-clause-gives : goal.returns-in_err-at-clause-gives
 unfolding read_constant_line
 returns-in_err-at-clause-gives c =
-    leave _ _ _ _ _ _ _ c.from_residual.ensures.1 _ (λ x h. rw h refl) (le_refl _) c.in_err-at.ensures.gives
+    handed _ _ _ _ c.from_residual.ensures c.in_err-at.ensures.gives (le_refl _) (λ x h. rw h refl)
 
 pub returns-in_err-ty-clause-gives : goal.returns-in_err-ty-clause-gives
 unfolding read_constant_line
 returns-in_err-ty-clause-gives c =
     let w = c.in_ok-at.ensures.gives in
-    leave _ _ _ _ _ _ _ c.from_residual-in_err-ty.ensures.1 _ (λ x h. rw (w.4, h) refl) w.2 c.in_err-ty.ensures.gives
+    handed _ _ _ _ c.from_residual-in_err-ty.ensures c.in_err-ty.ensures.gives w.2 (λ x h. rw (w.4, h) refl)
 
 pub returns-in_err-name-clause-gives : goal.returns-in_err-name-clause-gives
 unfolding read_constant_line
 returns-in_err-name-clause-gives c =
     let w = c.in_ok-at.ensures.gives in
     let t = c.in_ok-ty.ensures.gives in
-    leave _ _ _ _ _ _ _ c.from_residual-in_err-name.ensures.1 _ (λ x h. rw (w.4, t.4, h) refl) (omega arith) c.in_err-name.ensures.gives
+    handed _ _ _ _ c.from_residual-in_err-name.ensures c.in_err-name.ensures.gives (omega arith) (λ x h. rw (w.4, t.4, h) refl)
 
 pub returns-in_err-next-clause-gives : goal.returns-in_err-next-clause-gives
 unfolding read_constant_line
@@ -30,7 +31,7 @@ returns-in_err-next-clause-gives c =
     let w = c.in_ok-at.ensures.gives in
     let t = c.in_ok-ty.ensures.gives in
     let n = c.in_ok-name.ensures.gives in
-    leave_mark _ _ _ _ _ _ _ c.from_residual-in_err-next.ensures.1 _ (λ x h. rw (w.4, t.4, n.4, h) refl) (omega arith) n.3 c.in_err-next.ensures
+    handed_mark _ _ _ _ c.from_residual-in_err-next.ensures c.in_err-next.ensures (omega arith) n.3 (λ x h. rw (w.4, t.4, n.4, h) refl)
 
 pub returns-in_err-value-clause-gives : goal.returns-in_err-value-clause-gives
 unfolding read_constant_line
@@ -39,7 +40,7 @@ returns-in_err-value-clause-gives c =
     let t = c.in_ok-ty.ensures.gives in
     let n = c.in_ok-name.ensures.gives in
     let a = c.in_ok-next.ensures in
-    leave _ _ _ _ _ _ _ c.from_residual-in_err-value.ensures.1 _ (λ x h. rw (w.4, t.4, n.4, a.4, h) refl) (omega arith) c.in_err-value.ensures.gives
+    handed _ _ _ _ c.from_residual-in_err-value.ensures c.in_err-value.ensures.gives (omega arith) (λ x h. rw (w.4, t.4, n.4, a.4, h) refl)
 
 pub returns-in_err-next-2-clause-gives : goal.returns-in_err-next-2-clause-gives
 unfolding read_constant_line
@@ -49,7 +50,7 @@ returns-in_err-next-2-clause-gives c =
     let n = c.in_ok-name.ensures.gives in
     let a = c.in_ok-next.ensures in
     let e = c.in_ok-value.ensures.gives in
-    leave_mark _ _ _ _ _ _ _ c.from_residual-in_err-next-2.ensures.1 _ (λ x h. rw (w.4, t.4, n.4, a.4, e.4, h) refl) (omega arith) e.3 c.in_err-next-2.ensures
+    handed_mark _ _ _ _ c.from_residual-in_err-next-2.ensures c.in_err-next-2.ensures (omega arith) e.3 (λ x h. rw (w.4, t.4, n.4, a.4, e.4, h) refl)
 
 pub returns-clause-gives : goal.returns-clause-gives
 unfolding read_constant_line

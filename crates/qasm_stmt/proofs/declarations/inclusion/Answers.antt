@@ -3,26 +3,27 @@ use Rattle.qasm_ast.specs.Tree.{include}
 use Rattle.qasm_grammar.specs.Reader.{read_inclusion}
 use Rattle.qasm_grammar.specs.Grammar.{at_one}
 use Rattle.qasm_stmt.proofs.Growing.{grown_same}
-use Rattle.qasm_stmt.proofs.Lines.{leave, leave_mark, line_shows}
+use Rattle.qasm_expr.proofs.Exits.{handed, handed_mark}
+use Rattle.qasm_stmt.proofs.Lines.{line_shows}
 use Rattle.qasm_stmt.proofs.declarations.inclusion.Goals as goal
 
 pub returns-in_err-at-clause-gives : goal.returns-in_err-at-clause-gives
 unfolding read_inclusion
 returns-in_err-at-clause-gives c =
-    leave _ _ _ _ _ _ _ c.from_residual.ensures.1 _ (λ x h. rw h refl) (le_refl _) c.in_err-at.ensures.gives
+    handed _ _ _ _ c.from_residual.ensures c.in_err-at.ensures.gives (le_refl _) (λ x h. rw h refl)
 
 pub returns-in_err-next-clause-gives : goal.returns-in_err-next-clause-gives
 unfolding read_inclusion
 returns-in_err-next-clause-gives c =
     let w = c.in_ok-at.ensures.gives in
-    leave _ _ _ _ _ _ _ c.from_residual-in_err-next.ensures.1 _ (λ x h. rw (w.4, h) refl) w.2 c.in_err-next.ensures.gives
+    handed _ _ _ _ c.from_residual-in_err-next.ensures c.in_err-next.ensures.gives w.2 (λ x h. rw (w.4, h) refl)
 
 pub returns-in_err-next-2-clause-gives : goal.returns-in_err-next-2-clause-gives
 unfolding read_inclusion
 returns-in_err-next-2-clause-gives c =
     let w = c.in_ok-at.ensures.gives in
     let t = c.in_ok-next.ensures.gives in
-    leave_mark _ _ _ _ _ _ _ c.from_residual-in_err-next-2.ensures.1 _ (λ x h. rw (w.4, t.4, h) refl) (omega arith) t.3 c.in_err-next-2.ensures
+    handed_mark _ _ _ _ c.from_residual-in_err-next-2.ensures c.in_err-next-2.ensures (omega arith) t.3 (λ x h. rw (w.4, t.4, h) refl)
 
 pub returns-clause-gives : goal.returns-clause-gives
 unfolding read_inclusion

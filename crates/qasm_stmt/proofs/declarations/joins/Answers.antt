@@ -5,14 +5,15 @@ use Rattle.qasm_expr.proofs.Places.{heads_sign}
 use Rattle.qasm_expr.proofs.Units.{pushed}
 use Rattle.qasm_grammar.specs.Reader.{symbol_kinds, read_joined}
 use Rattle.qasm_stmt.specs.Seen.{Each, IsOperand}
-use Rattle.qasm_stmt.proofs.Growing.{grown_same, grown_on, each_on, each_push, operand_later}
-use Rattle.qasm_stmt.proofs.Lines.{leave, mark_seen}
-use Rattle.qasm_stmt.proofs.Loops.{repeating_start, repeating_stop, repeating_err, repeating_more}
+use Rattle.qasm_stmt.proofs.Growing.{each_none, grown_same, grown_on, each_on, each_push, operand_later}
+use Rattle.qasm_expr.proofs.Exits.{handed}
+use Rattle.qasm_stmt.proofs.Lines.{mark_seen}
+use Rattle.qasm_expr.proofs.Loops.{repeating_start, repeating_stop, repeating_err, repeating_more}
 use Rattle.qasm_stmt.proofs.declarations.joins.Goals as goal
 
 pub joins-init : goal.joins-init
 joins-init c = record {
-  repeating = repeating_start c.args.text.now (symbol_kinds m.PlusPlus) (read_joined c.args.text.now (Some 64) c.args.room) c.args.tokens.now c.args.from (IsOperand c.args.arena.now) c.new-found.result.items c.new-found.ensures.items c.requires.within;
+  repeating = repeating_start c.args.text.now (symbol_kinds m.PlusPlus) (read_joined c.args.text.now (Some 64) c.args.room) c.args.tokens.now c.args.from (Each (IsOperand c.args.arena.now)) c.new-found.result.items (each_none _ _ c.new-found.ensures.items) c.requires.within;
   count = omega (arith, ap length c.new-found.ensures.items);
   grown = grown_same _;
   few = c.requires.few;
@@ -24,7 +25,7 @@ returns-in_err-item-clause-gives c =
     let g = c.joins.invariant.repeating in
     let from_at : c.args.from ≤ c.joins.at = g.from_at in
     let s = mark_seen c.args.text.now c.args.tokens.now c.joins.at (mark_kind m.PlusPlus) (lit< tt) g.at_end (sym c.sees.ensures.value ∙ c.joins-test.true) in
-    leave _ _ _ _ _ _ _ c.from_residual.ensures.1 _ (λ x h. repeating_err c.args.text.now (symbol_kinds m.PlusPlus) (read_joined c.args.text.now (Some 64) c.args.room) c.args.tokens.now c.args.from g s.1 x (rw (s.3, h) refl)) (omega arith) c.in_err-item.ensures.gives
+    handed _ _ _ _ c.from_residual.ensures c.in_err-item.ensures.gives (omega arith) (λ x h. repeating_err c.args.text.now (symbol_kinds m.PlusPlus) (read_joined c.args.text.now (Some 64) c.args.room) c.args.tokens.now c.args.from g s.1 x (rw (s.3, h) refl))
 
 pub joins-preserved : goal.joins-preserved
 joins-preserved c =
@@ -36,7 +37,7 @@ joins-preserved c =
     let before = each_on (IsOperand c.joins.arena) (IsOperand c.operand.new.arena) (operand_later c.joins.invariant.sound c.in_ok-item.ensures.grown) c.joins.found.items g.acc g.sees in
     let seen = subst (λ l. Each (IsOperand c.operand.new.arena) l (g.acc ++ o.0 ∷ [])) (sym push) (each_push (IsOperand c.operand.new.arena) c.joins.found.items g.acc c.in_ok-item.item o.0 before o.1) in
     record {
-      repeating = repeating_more c.args.text.now (symbol_kinds m.PlusPlus) (read_joined c.args.text.now (Some 64) c.args.room) c.args.tokens.now c.args.from g s.1 (IsOperand c.operand.new.arena) c.in_ok-item.next o.0 c.push.new.self.items seen (omega arith) o.3 (rw (s.3, o.4) refl);
+      repeating = repeating_more c.args.text.now (symbol_kinds m.PlusPlus) (read_joined c.args.text.now (Some 64) c.args.room) c.args.tokens.now c.args.from g s.1 (Each (IsOperand c.operand.new.arena)) c.in_ok-item.next o.0 c.push.new.self.items seen (omega arith) o.3 (rw (s.3, o.4) refl);
       count = omega (arith, c.joins.invariant.count, ap length push, length-append c.joins.found.items (c.in_ok-item.item ∷ []));
       grown = grown_on c.joins.invariant.grown c.in_ok-item.ensures.grown;
       few = c.in_ok-item.ensures.few;

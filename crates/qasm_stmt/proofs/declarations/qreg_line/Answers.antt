@@ -5,26 +5,27 @@ use Rattle.qasm_expr.specs.Grammar.{scalar}
 use Rattle.qasm_grammar.specs.Reader.{read_qreg_line}
 use Rattle.qasm_grammar.specs.Grammar.{at_one}
 use Rattle.qasm_stmt.proofs.Growing.{name_later}
-use Rattle.qasm_stmt.proofs.Lines.{leave, leave_mark, line_shows, qubit_type}
+use Rattle.qasm_expr.proofs.Exits.{handed, handed_mark}
+use Rattle.qasm_stmt.proofs.Lines.{line_shows, qubit_type}
 use Rattle.qasm_stmt.proofs.declarations.qreg_line.Goals as goal
 
 pub returns-in_err-at-clause-gives : goal.returns-in_err-at-clause-gives
 unfolding read_qreg_line
 returns-in_err-at-clause-gives c =
-    leave _ _ _ _ _ _ _ c.from_residual.ensures.1 _ (λ x h. rw h refl) (le_refl _) c.in_err-at.ensures.gives
+    handed _ _ _ _ c.from_residual.ensures c.in_err-at.ensures.gives (le_refl _) (λ x h. rw h refl)
 
 pub returns-in_err-name-clause-gives : goal.returns-in_err-name-clause-gives
 unfolding read_qreg_line
 returns-in_err-name-clause-gives c =
     let w = c.in_ok-at.ensures.gives in
-    leave _ _ _ _ _ _ _ c.from_residual-in_err-name.ensures.1 _ (λ x h. rw (w.4, h) refl) w.2 c.in_err-name.ensures.gives
+    handed _ _ _ _ c.from_residual-in_err-name.ensures c.in_err-name.ensures.gives w.2 (λ x h. rw (w.4, h) refl)
 
 pub returns-in_err-width-clause-gives : goal.returns-in_err-width-clause-gives
 unfolding read_qreg_line
 returns-in_err-width-clause-gives c =
     let w = c.in_ok-at.ensures.gives in
     let n = c.in_ok-name.ensures.gives in
-    leave _ _ _ _ _ _ _ c.from_residual-in_err-width.ensures.1 _ (λ x h. rw (w.4, n.4, h) refl) (omega arith) c.in_err-width.ensures.gives
+    handed _ _ _ _ c.from_residual-in_err-width.ensures c.in_err-width.ensures.gives (omega arith) (λ x h. rw (w.4, n.4, h) refl)
 
 pub returns-in_err-next-clause-gives : goal.returns-in_err-next-clause-gives
 unfolding read_qreg_line
@@ -32,7 +33,7 @@ returns-in_err-next-clause-gives c =
     let w = c.in_ok-at.ensures.gives in
     let n = c.in_ok-name.ensures.gives in
     let e = c.in_ok-width.ensures.gives in
-    leave_mark _ _ _ _ _ _ _ c.from_residual-in_err-next.ensures.1 _ (λ x h. rw (w.4, n.4, e.4, h) refl) (omega arith) e.3 c.in_err-next.ensures
+    handed_mark _ _ _ _ c.from_residual-in_err-next.ensures c.in_err-next.ensures (omega arith) e.3 (λ x h. rw (w.4, n.4, e.4, h) refl)
 
 pub returns-clause-gives : goal.returns-clause-gives
 unfolding read_qreg_line

@@ -3,26 +3,27 @@ use Rattle.qasm_ast.specs.Tree.{Scalar, variable}
 use Rattle.qasm_grammar.specs.Reader.{read_variable_line}
 use Rattle.qasm_grammar.specs.Grammar.{at_one}
 use Rattle.qasm_stmt.proofs.Growing.{grown_on, name_later, type_later}
-use Rattle.qasm_stmt.proofs.Lines.{leave, leave_mark, line_shows, value_if}
+use Rattle.qasm_expr.proofs.Exits.{handed, handed_mark}
+use Rattle.qasm_stmt.proofs.Lines.{line_shows, value_if}
 use Rattle.qasm_stmt.proofs.declarations.variable_line.Goals as goal
 
 pub returns-in_err-ty-clause-gives : goal.returns-in_err-ty-clause-gives
 unfolding read_variable_line
 returns-in_err-ty-clause-gives c =
-    leave _ _ _ _ _ _ _ c.from_residual.ensures.1 _ (λ x h. rw h refl) (le_refl _) c.in_err-ty.ensures.gives
+    handed _ _ _ _ c.from_residual.ensures c.in_err-ty.ensures.gives (le_refl _) (λ x h. rw h refl)
 
 pub returns-in_err-name-clause-gives : goal.returns-in_err-name-clause-gives
 unfolding read_variable_line
 returns-in_err-name-clause-gives c =
     let t = c.in_ok-ty.ensures.gives in
-    leave _ _ _ _ _ _ _ c.from_residual-in_err-name.ensures.1 _ (λ x h. rw (t.4, h) refl) t.2 c.in_err-name.ensures.gives
+    handed _ _ _ _ c.from_residual-in_err-name.ensures c.in_err-name.ensures.gives t.2 (λ x h. rw (t.4, h) refl)
 
 pub returns-in_err-initial-clause-gives : goal.returns-in_err-initial-clause-gives
 unfolding read_variable_line
 returns-in_err-initial-clause-gives c =
     let t = c.in_ok-ty.ensures.gives in
     let n = c.in_ok-name.ensures.gives in
-    leave _ _ _ _ _ _ _ c.from_residual-in_err-initial.ensures.1 _ (λ x h. rw (t.4, n.4, h) refl) (omega arith) c.in_err-initial.ensures.gives
+    handed _ _ _ _ c.from_residual-in_err-initial.ensures c.in_err-initial.ensures.gives (omega arith) (λ x h. rw (t.4, n.4, h) refl)
 
 pub returns-in_err-next-clause-gives : goal.returns-in_err-next-clause-gives
 unfolding read_variable_line
@@ -30,7 +31,7 @@ returns-in_err-next-clause-gives c =
     let t = c.in_ok-ty.ensures.gives in
     let n = c.in_ok-name.ensures.gives in
     let v = c.in_ok-initial.ensures.gives in
-    leave_mark _ _ _ _ _ _ _ c.from_residual-in_err-next.ensures.1 _ (λ x h. rw (t.4, n.4, v.4, h) refl) (omega arith) v.3 c.in_err-next.ensures
+    handed_mark _ _ _ _ c.from_residual-in_err-next.ensures c.in_err-next.ensures (omega arith) v.3 (λ x h. rw (t.4, n.4, v.4, h) refl)
 
 pub returns-clause-gives : goal.returns-clause-gives
 unfolding read_variable_line

@@ -6,22 +6,23 @@ use Rattle.qasm_expr.proofs.Units.{pushed}
 use Rattle.qasm_grammar.specs.Parts.{statements}
 use Rattle.qasm_grammar.specs.Reader.{member_kinds, read_symbol, read_member}
 use Rattle.qasm_stmt.specs.Seen.{Each, IsMember, IsGateBody}
-use Rattle.qasm_stmt.proofs.Growing.{grown_same, grown_on, each_on, each_push, member_later}
-use Rattle.qasm_stmt.proofs.Loops.{repeating_start, repeating_stop, repeating_err, repeating_more}
-use Rattle.qasm_stmt.proofs.Nesting.{leave, leave_mark, gate_body_shut, gate_body_inside, member_list}
+use Rattle.qasm_stmt.proofs.Growing.{each_none, grown_same, grown_on, each_on, each_push, member_later}
+use Rattle.qasm_expr.proofs.Loops.{repeating_start, repeating_stop, repeating_err, repeating_more}
+use Rattle.qasm_expr.proofs.Exits.{handed, handed_mark}
+use Rattle.qasm_stmt.proofs.Nesting.{gate_body_shut, gate_body_inside, member_list}
 use Rattle.qasm_stmt.proofs.Members.{member_moves}
 use Rattle.qasm_stmt.proofs.gates.gate_body.Goals as goal
 
 pub returns-in_err-inside-clause-gives : goal.returns-in_err-inside-clause-gives
 returns-in_err-inside-clause-gives c =
-    leave_mark (IsGateBody c.args.arena.now) c.args.tokens.now c.args.from c.args.from (read_opener c.args.text.now c.args.room (mark_kind m.LeftBrace) (drop c.args.from c.args.tokens.now)) _ c.in_err-inside.field-0.0 c.from_residual.result c.from_residual.ensures.1 (λ x h. gate_body_shut c.args.text.now c.args.room (drop c.args.from c.args.tokens.now) x h) (le_refl _) c.requires.within c.in_err-inside.ensures.passes
+    handed_mark _ _ _ _ c.from_residual.ensures c.in_err-inside.ensures.passes (le_refl _) c.requires.within (λ x h. gate_body_shut c.args.text.now c.args.room (drop c.args.from c.args.tokens.now) x h)
 
 pub members-init : goal.members-init
 members-init c =
     let o = c.in_ok-inside.ensures.passes in
     let old = c.requires.few in
     record {
-      repeating = repeating_start c.args.text.now member_kinds (read_member c.args.text.now (Some 64) (c.args.room - 1)) c.args.tokens.now c.in_ok-inside.inside (IsMember c.args.arena.now) c.new-statements.result.items c.new-statements.ensures.items o.2;
+      repeating = repeating_start c.args.text.now member_kinds (read_member c.args.text.now (Some 64) (c.args.room - 1)) c.args.tokens.now c.in_ok-inside.inside (Each (IsMember c.args.arena.now)) c.new-statements.result.items (each_none _ _ c.new-statements.ensures.items) o.2;
       count = omega (arith, ap length c.new-statements.ensures.items);
       at_start = omega (arith, o.1);
       room = omega (arith, c.in_ok-inside.ensures.has_room);
@@ -35,7 +36,7 @@ returns-in_err-id-clause-gives c =
     let o = c.in_ok-inside.ensures.passes in
     let inside = gate_body_inside c.args.text.now c.args.room (drop c.args.from c.args.tokens.now) (drop c.in_ok-inside.inside c.args.tokens.now) o.0 c.in_ok-inside.ensures.has_room o.4 in
     let g = c.members.invariant.repeating in
-    leave (IsGateBody c.member.new.arena) c.args.tokens.now c.args.from c.members.at (read_member c.args.text.now (Some 64) (c.args.room - 1) (drop c.members.at c.args.tokens.now)) _ c.in_err-id.field-0.0 c.from_residual-in_err-id.result c.from_residual-in_err-id.ensures.1 (λ x h. inside ∙ rw (repeating_err c.args.text.now member_kinds (read_member c.args.text.now (Some 64) (c.args.room - 1)) c.args.tokens.now c.in_ok-inside.inside g (sym c.begins_member.ensures ∙ c.members-test.true) x h) refl) (omega (arith, c.members.invariant.at_start, g.from_at)) c.in_err-id.ensures.gives
+    handed _ _ _ _ c.from_residual-in_err-id.ensures c.in_err-id.ensures.gives (omega (arith, c.members.invariant.at_start, g.from_at)) (λ x h. inside ∙ rw (repeating_err c.args.text.now member_kinds (read_member c.args.text.now (Some 64) (c.args.room - 1)) c.args.tokens.now c.in_ok-inside.inside g (sym c.begins_member.ensures ∙ c.members-test.true) x h) refl)
 
 pub members-smaller : goal.members-smaller
 members-smaller c =
@@ -54,7 +55,7 @@ members-preserved c =
     let kept = each_on (IsMember c.members.arena) (IsMember c.member.new.arena) (member_later c.members.invariant.sound c.in_ok-id.ensures.grown) c.members.statements.items g.acc g.sees in
     let seen = subst (λ l. Each (IsMember c.member.new.arena) l (g.acc ++ r.0 ∷ [])) (sym push) (each_push (IsMember c.member.new.arena) c.members.statements.items g.acc c.in_ok-id.id r.0 kept r.1) in
     record {
-      repeating = repeating_more c.args.text.now member_kinds (read_member c.args.text.now (Some 64) (c.args.room - 1)) c.args.tokens.now c.in_ok-inside.inside g (sym c.begins_member.ensures ∙ c.members-test.true) (IsMember c.member.new.arena) c.in_ok-id.next r.0 c.push.new.self.items seen on r.3 r.4;
+      repeating = repeating_more c.args.text.now member_kinds (read_member c.args.text.now (Some 64) (c.args.room - 1)) c.args.tokens.now c.in_ok-inside.inside g (sym c.begins_member.ensures ∙ c.members-test.true) (Each (IsMember c.member.new.arena)) c.in_ok-id.next r.0 c.push.new.self.items seen on r.3 r.4;
       count = omega (arith, ap length push, length-append c.members.statements.items (c.in_ok-id.id ∷ []), on, c.members.invariant.count);
       at_start = c.members.invariant.at_start;
       room = c.members.invariant.room;
@@ -68,7 +69,7 @@ returns-in_err-close-clause-gives c =
     let o = c.in_ok-inside.ensures.passes in
     let inside = gate_body_inside c.args.text.now c.args.room (drop c.args.from c.args.tokens.now) (drop c.in_ok-inside.inside c.args.tokens.now) o.0 c.in_ok-inside.ensures.has_room o.4 in
     let g = c.members.invariant.repeating in
-    leave (IsGateBody c.members.arena) c.args.tokens.now c.args.from c.members.at (read_symbol c.args.text.now m.RightBrace (drop c.members.at c.args.tokens.now)) _ c.in_err-close.field-0.0 c.from_residual-in_err-close.result c.from_residual-in_err-close.ensures.1 (λ x h. inside ∙ rw (repeating_stop c.args.text.now member_kinds (read_member c.args.text.now (Some 64) (c.args.room - 1)) c.args.tokens.now c.in_ok-inside.inside g (sym c.begins_member.ensures ∙ c.members-test.false), h) refl) (omega (arith, c.members.invariant.at_start, g.from_at)) c.in_err-close.ensures.gives
+    handed _ _ _ _ c.from_residual-in_err-close.ensures c.in_err-close.ensures.gives (omega (arith, c.members.invariant.at_start, g.from_at)) (λ x h. inside ∙ rw (repeating_stop c.args.text.now member_kinds (read_member c.args.text.now (Some 64) (c.args.room - 1)) c.args.tokens.now c.in_ok-inside.inside g (sym c.begins_member.ensures ∙ c.members-test.false), h) refl)
 
 pub returns-clause-gives : goal.returns-clause-gives
 returns-clause-gives c =

@@ -3,7 +3,8 @@ use Rattle.qasm_grammar.specs.Reader.{read_call_line, read_barrier_line, read_me
 use Rattle.qasm_stmt.specs.Seen.{IsMember, tree, stmt}
 use Rattle.qasm_stmt.proofs.Growing.{grown_on}
 use Rattle.qasm_stmt.proofs.Showing.{pushed_grown, pushed_sound, pushed_member}
-use Rattle.qasm_stmt.proofs.Nesting.{leave, pushed_few}
+use Rattle.qasm_expr.proofs.Exits.{handed}
+use Rattle.qasm_stmt.proofs.Nesting.{pushed_few}
 use Rattle.qasm_stmt.proofs.Members.{Found, call_line_allowed, barrier_line_allowed, allowed_stands}
 use Rattle.qasm_stmt.proofs.gates.member.Goals.{then-begins_call+in_ok-call_line, else-begins_call+in_ok-found}
 use Rattle.qasm_stmt.proofs.gates.member.Goals as goal
@@ -11,12 +12,12 @@ use Rattle.qasm_stmt.proofs.gates.member.Goals as goal
 pub returns-in_err-call_line-clause-gives : goal.returns-in_err-call_line-clause-gives
 unfolding read_member
 returns-in_err-call_line-clause-gives c =
-    leave (IsMember c.call_line.new.arena) c.args.tokens.now c.args.from c.args.from (read_call_line c.args.text.now (Some 64) c.args.room (drop c.args.from c.args.tokens.now)) _ c.in_err-call_line.field-0.0 c.from_residual.result c.from_residual.ensures.1 (λ x h. rw (sym c.begins_call.ensures ∙ c.if-begins_call.true, h) refl) (le_refl _) c.in_err-call_line.ensures.gives
+    handed _ _ _ _ c.from_residual.ensures c.in_err-call_line.ensures.gives (le_refl _) (λ x h. rw (sym c.begins_call.ensures ∙ c.if-begins_call.true, h) refl)
 
 pub returns-in_err-found-clause-gives : goal.returns-in_err-found-clause-gives
 unfolding read_member
 returns-in_err-found-clause-gives c =
-    leave (IsMember c.barrier_line.new.arena) c.args.tokens.now c.args.from c.args.from (read_barrier_line c.args.text.now (Some 64) c.args.room (drop c.args.from c.args.tokens.now)) _ c.in_err-found.field-0.0 c.from_residual-in_err-found.result c.from_residual-in_err-found.ensures.1 (λ x h. rw (sym c.begins_call.ensures ∙ c.if-begins_call.false, h) refl) (le_refl _) c.in_err-found.ensures.gives
+    handed _ _ _ _ c.from_residual-in_err-found.ensures c.in_err-found.ensures.gives (le_refl _) (λ x h. rw (sym c.begins_call.ensures ∙ c.if-begins_call.false, h) refl)
 
 -- what either way finds
 found : (c : goal.In_ok-id) → Found c.args.text.now c.args.room c.args.tokens.now c.args.from c.args.arena.now c.if-begins_call.arena c.if-begins_call.found

@@ -4,17 +4,17 @@ use Rattle.qasm_expr.specs.Reader.{begins}
 use Rattle.qasm_expr.proofs.Units.{pushed}
 use Rattle.qasm_grammar.specs.Reader.{read_name, name_kinds}
 use Rattle.qasm_grammar.proofs.Moves.{name_moves}
-use Rattle.qasm_stmt.specs.Seen.{IsName}
-use Rattle.qasm_stmt.proofs.Growing.{grown_same, grown_on, name_later}
-use Rattle.qasm_stmt.proofs.Loops.{listing_start, listing_stop, listing_end, listing_more}
-use Rattle.qasm_stmt.proofs.Handed.{each_with}
+use Rattle.qasm_stmt.specs.Seen.{Each, IsName}
+use Rattle.qasm_stmt.proofs.Growing.{each_none, grown_same, grown_on, name_later}
+use Rattle.qasm_expr.proofs.Loops.{listing_start, listing_stop, listing_end, listing_more}
+use Rattle.qasm_stmt.proofs.Filling.{each_more}
 use Rattle.qasm_stmt.proofs.names.names.Goals as goal
 use Rattle.qasm_stmt.proofs.names.names.Goals.{then-first, else-first+then-begins_name}
 
 pub items-init : goal.items-init
 items-init c =
     record {
-      listing = listing_start c.args.text.now name_kinds (read_name c.args.text.now) c.args.tokens.now c.args.from (IsName c.args.arena.now) c.args.filled c.new-found.result.items c.new-found.ensures.items c.requires.within;
+      listing = listing_start c.args.text.now name_kinds (read_name c.args.text.now) c.args.tokens.now c.args.from (Each (IsName c.args.arena.now)) c.args.filled c.new-found.result.items (each_none _ _ c.new-found.ensures.items) c.requires.within;
       count = omega (arith, ap length c.new-found.ensures.items);
       grown = grown_same _;
       few = c.requires.few;
@@ -28,7 +28,7 @@ returns-then-not-sees-clause-gives c =
     let shorter : length (drop c.in_ok-item.next c.args.tokens.now) < length (drop c.items.at c.args.tokens.now) = name_moves c.args.text.now (drop c.items.at c.args.tokens.now) r.0 (drop c.in_ok-item.next c.args.tokens.now) r.4 in
     let on : c.items.at < c.in_ok-item.next = omega (arith, shorter, length-drop c.in_ok-item.next c.args.tokens.now, length-drop c.items.at c.args.tokens.now) in
     let push = pushed c.push.result c.items.found.items c.push.new.self.items (c.items.found.items ++ c.in_ok-item.item ∷ []) c.push.ensures.items (sym c.is_err.ensures.value ∙ c.if-is_err.false) in
-    let seen = each_with (IsName c.items.arena) (IsName c.declared.new.arena) c.items.found.items c.push.new.self.items g.acc c.in_ok-item.item r.0 (name_later c.items.invariant.sound c.in_ok-item.ensures.grown) push g.sees r.1 in
+    let seen = each_more (IsName c.items.arena) (IsName c.declared.new.arena) (name_later c.items.invariant.sound c.in_ok-item.ensures.grown) c.items.found.items c.push.new.self.items g.acc c.in_ok-item.item r.0 push g.sees r.1 in
     let begun : (c.items.first || heads (begins c.args.text.now name_kinds) (drop c.items.at c.args.tokens.now)) ≡ true = elim c.if-first.branch [
       | then-first w ↦ rw (w.if-first.true) refl
       | else-first+then-begins_name w ↦ rw (w.if-first.false, sym w.begins_name.ensures ∙ w.if-begins_name.true) refl
@@ -45,7 +45,7 @@ items-preserved c =
     let shorter : length (drop c.in_ok-item.next c.args.tokens.now) < length (drop c.items.at c.args.tokens.now) = name_moves c.args.text.now (drop c.items.at c.args.tokens.now) r.0 (drop c.in_ok-item.next c.args.tokens.now) r.4 in
     let on : c.items.at < c.in_ok-item.next = omega (arith, shorter, length-drop c.in_ok-item.next c.args.tokens.now, length-drop c.items.at c.args.tokens.now) in
     let push = pushed c.push.result c.items.found.items c.push.new.self.items (c.items.found.items ++ c.in_ok-item.item ∷ []) c.push.ensures.items (sym c.is_err.ensures.value ∙ c.if-is_err.false) in
-    let seen = each_with (IsName c.items.arena) (IsName c.declared.new.arena) c.items.found.items c.push.new.self.items g.acc c.in_ok-item.item r.0 (name_later c.items.invariant.sound c.in_ok-item.ensures.grown) push g.sees r.1 in
+    let seen = each_more (IsName c.items.arena) (IsName c.declared.new.arena) (name_later c.items.invariant.sound c.in_ok-item.ensures.grown) c.items.found.items c.push.new.self.items g.acc c.in_ok-item.item r.0 push g.sees r.1 in
     let begun : (c.items.first || heads (begins c.args.text.now name_kinds) (drop c.items.at c.args.tokens.now)) ≡ true = elim c.if-first.branch [
       | then-first w ↦ rw (w.if-first.true) refl
       | else-first+then-begins_name w ↦ rw (w.if-first.false, sym w.begins_name.ensures ∙ w.if-begins_name.true) refl
@@ -53,7 +53,7 @@ items-preserved c =
     let few = c.in_ok-item.ensures.few in
     let count = c.items.invariant.count in
     record {
-      listing = listing_more c.args.text.now name_kinds (read_name c.args.text.now) c.args.tokens.now c.args.from g begun (IsName c.declared.new.arena) c.in_ok-item.next r.0 c.push.new.self.items seen on r.3 r.4 (sym c.sees.ensures.value ∙ c.if-not-sees.false);
+      listing = listing_more c.args.text.now name_kinds (read_name c.args.text.now) c.args.tokens.now c.args.from g begun (Each (IsName c.declared.new.arena)) c.in_ok-item.next r.0 c.push.new.self.items seen on r.3 r.4 (sym c.sees.ensures.value ∙ c.if-not-sees.false);
       count = omega (arith, count, ap length push, length-append c.items.found.items (c.in_ok-item.item ∷ []), on);
       grown = grown_on c.items.invariant.grown c.in_ok-item.ensures.grown;
       few = (omega (arith, few.0), omega (arith, few.1), omega (arith, few.2));

@@ -4,18 +4,18 @@ use Rattle.qasm_expr.specs.Reader.{begins}
 use Rattle.qasm_expr.proofs.Units.{pushed}
 use Rattle.qasm_grammar.specs.Reader.{operand_kinds}
 use Rattle.qasm_grammar.proofs.Moves.{operand_moves}
-use Rattle.qasm_stmt.specs.Seen.{IsOperand}
+use Rattle.qasm_stmt.specs.Seen.{Each, IsOperand}
 use Rattle.qasm_stmt.proofs.Filling.{each_more, goes_on, or_true, or_false}
-use Rattle.qasm_stmt.proofs.Growing.{grown_same, grown_on, operand_later}
-use Rattle.qasm_stmt.proofs.Handing.{handed}
-use Rattle.qasm_stmt.proofs.Loops.{listing_start, listing_stop, listing_err, listing_end, listing_more}
+use Rattle.qasm_stmt.proofs.Growing.{each_none, grown_same, grown_on, operand_later}
+use Rattle.qasm_expr.proofs.Exits.{handed}
+use Rattle.qasm_expr.proofs.Loops.{listing_start, listing_stop, listing_err, listing_end, listing_more}
 use Rattle.qasm_stmt.proofs.operands.operands.Goals.{then-first, else-first+then-begins_operand}
 use Rattle.qasm_stmt.proofs.operands.operands.Goals as goal
 
 pub items-init : goal.items-init
 items-init c =
     record {
-      listing = listing_start _ _ _ _ _ _ _ _ c.new-found.ensures.items c.requires.within;
+      listing = listing_start _ _ _ _ _ _ _ _ (each_none _ _ c.new-found.ensures.items) c.requires.within;
       count = omega (arith, ap length c.new-found.ensures.items);
       grown = grown_same _;
       few = c.requires.few;
@@ -58,7 +58,7 @@ items-preserved c =
     let seen = each_more (IsOperand c.items.arena) (IsOperand c.operand.new.arena) (operand_later c.items.invariant.sound c.in_ok-item.ensures.grown) c.items.found.items c.push.new.self.items g.acc c.in_ok-item.item r.0 push g.sees r.1 in
     let few = c.in_ok-item.ensures.few in
     record {
-      listing = listing_more _ _ _ _ _ g begun (IsOperand c.operand.new.arena) c.in_ok-item.next r.0 c.push.new.self.items seen on r.3 r.4 (sym c.sees.ensures.value ∙ c.if-not-sees.false);
+      listing = listing_more _ _ _ _ _ g begun (Each (IsOperand c.operand.new.arena)) c.in_ok-item.next r.0 c.push.new.self.items seen on r.3 r.4 (sym c.sees.ensures.value ∙ c.if-not-sees.false);
       count = omega (arith, ap length push, length-append c.items.found.items (c.in_ok-item.item ∷ []), on, c.items.invariant.count);
       grown = grown_on c.items.invariant.grown c.in_ok-item.ensures.grown;
       few = (omega (arith, few.0), omega (arith, few.1), omega (arith, few.2));

@@ -1,12 +1,13 @@
 use Rattle.std.proofs.Common.{◌+◌, ◌-◌, ◌≤◌, Some, length, drop}
 use Rattle.qasm_grammar.specs.Reader.{read_operand, operand_kinds}
-use Rattle.qasm_stmt.specs.Seen.{Sound, Few, Grown, IsOperand, read_listed}
-use Rattle.qasm_stmt.proofs.Loops.{Listing}
+use Rattle.qasm_expr.specs.Reader.{read_listed}
+use Rattle.qasm_stmt.specs.Seen.{Each, Sound, Few, Grown, IsOperand}
+use Rattle.qasm_expr.proofs.Loops.{Listing}
 use Rattle.qasm_stmt.proofs.operands.operands.Given as goal
 
 abbrev pub invariant-items : goal.invariant-items
 invariant-items l = record {
-  listing : Listing l.text operand_kinds (read_operand l.text (Some 64) l.room) l.tokens (IsOperand l.arena) l.from (read_listed l.text operand_kinds l.filled (read_operand l.text (Some 64) l.room) (drop l.from l.tokens)) l.first l.found.items l.at;
+  listing : Listing l.text operand_kinds (read_operand l.text (Some 64) l.room) l.tokens (Each (IsOperand l.arena)) l.from (read_listed l.text operand_kinds l.filled (read_operand l.text (Some 64) l.room) (drop l.from l.tokens)) l.first l.found.items l.at;
   count : length l.found.items + l.from ≤ l.at;
   grown : Grown l.fn.arena l.arena;
   few : Few l.arena l.at;

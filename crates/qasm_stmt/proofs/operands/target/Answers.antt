@@ -3,7 +3,7 @@ use Rattle.qasm_ast.specs.Tree.{Name}
 use Rattle.qasm_grammar.specs.Parts.{operand_at}
 use Rattle.qasm_grammar.specs.Reader.{read_target}
 use Rattle.qasm_stmt.proofs.Growing.{name_later}
-use Rattle.qasm_stmt.proofs.Handing.{handed}
+use Rattle.qasm_expr.proofs.Exits.{handed}
 use Rattle.qasm_stmt.proofs.Spellings.{word_read, word_refused}
 use Rattle.qasm_stmt.proofs.operands.target.Goals as goal
 

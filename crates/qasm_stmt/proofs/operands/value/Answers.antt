@@ -1,7 +1,7 @@
 use Rattle.std.proofs.Common.{le_refl, refl, sym, ap, ◌∙◌, arith}
 use Rattle.qasm_ast.specs.Tree.{expression, measured}
 use Rattle.qasm_grammar.specs.Reader.{read_value}
-use Rattle.qasm_stmt.proofs.Handing.{handed}
+use Rattle.qasm_expr.proofs.Exits.{handed}
 use Rattle.qasm_stmt.proofs.operands.value.Goals as goal
 
 pub returns-in_err-found-clause-gives : goal.returns-in_err-found-clause-gives

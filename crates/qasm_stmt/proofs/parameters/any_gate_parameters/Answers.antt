@@ -12,14 +12,14 @@ use Rattle.qasm_expr.proofs.Exits.{exit, exit_mark}
 use Rattle.qasm_grammar.specs.Reader.{read_name, name_kinds, read_any_gate_parameters}
 use Rattle.qasm_stmt.specs.Seen.{IsList, IsName}
 use Rattle.qasm_stmt.proofs.Growing.{grown_same}
-use Rattle.qasm_stmt.proofs.Handed.{none_listed}
+use Rattle.qasm_stmt.proofs.Filling.{no_items}
 use Rattle.qasm_stmt.proofs.parameters.any_gate_parameters.Goals as goal
 
 pub returns-then-not-sees-clause-gives : goal.returns-then-not-sees-clause-gives
 unfolding read_any_gate_parameters
 returns-then-not-sees-clause-gives c =
     let paren = heads_sign c.args.text.now (mark_kind m.LeftParen) (drop c.args.from c.args.tokens.now) false (omega arith) (sym c.sees.ensures.value ∙ c.if-not-sees.true) in
-    ([], none_listed (IsName c.args.arena.now) c.new.result.items c.new.ensures.items, le_refl _, c.requires.within, rw (paren) refl)
+    ([], no_items (IsName c.args.arena.now) c.new.result.items c.new.ensures.items, le_refl _, c.requires.within, rw (paren) refl)
 
 pub returns-then-not-sees-clause-grown : goal.returns-then-not-sees-clause-grown
 returns-then-not-sees-clause-grown c = grown_same _

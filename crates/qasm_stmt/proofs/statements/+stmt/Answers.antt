@@ -5,7 +5,7 @@ use Rattle.qasm_ast.specs.declared.stmt.StmtId.{StmtId}
 use Rattle.qasm_ast.specs.Tree.{a_statement, no_statement, while, subroutine}
 use Rattle.qasm_expr.specs.TokenKinds.{keyword_kind, mark_kind}
 use Rattle.qasm_expr.specs.Reader.{read_opener}
-use Rattle.qasm_expr.proofs.Exits.{behind}
+use Rattle.qasm_expr.proofs.Exits.{behind, handed, handed_mark}
 use Rattle.qasm_expr.proofs.Places.{heads_sign, passes_yes}
 use Rattle.qasm_expr.proofs.Units.{pushed}
 use Rattle.qasm_grammar.specs.Grammar.{without_else, with_else, for_of}
@@ -13,30 +13,31 @@ use Rattle.qasm_grammar.specs.Parts.{Opened, opened_statements, close_or}
 use Rattle.qasm_grammar.specs.Reader.{stmt_kinds, read_keyword, read_symbol, read_name, read_condition, read_any_type, read_turns, read_parameters, read_result, read_inclusion, read_qubit_line, read_qreg_line, read_creg_line, read_variable_line, read_constant_line, read_output_line, read_alias_line, read_gate_definition, read_subroutine_definition, read_declaration, read_action, read_behind_body, read_conditional, read_while_loop, read_for_loop, read_control, read_stmt_at, read_stmt, read_all_stmts}
 use Rattle.qasm_grammar.proofs.Moves.{stmt_moves}
 use Rattle.qasm_stmt.specs.Seen.{Each, IsType, IsParameter, IsTurns, IsStatement, IsStatements, IsBlock, IsBody, IsLine, IsOpenLine, deeper_block, deeper_body}
-use Rattle.qasm_stmt.proofs.Growing.{grown_same, grown_on, each_on, each_push, if_both_on, tree_later, type_later, name_later, parameter_later, statement_later, statements_later}
+use Rattle.qasm_stmt.proofs.Growing.{each_none, grown_same, grown_on, each_on, each_push, if_both_on, tree_later, type_later, name_later, parameter_later, statement_later, statements_later}
 use Rattle.qasm_stmt.proofs.Showing.{pushed_statement, pushed_sound}
-use Rattle.qasm_stmt.proofs.Loops.{repeating_start, repeating_stop, repeating_err, repeating_more}
-use Rattle.qasm_stmt.proofs.Nesting.{leave, leave_mark, word_heads, stmt_open, block_shut, block_inside, body_braced, body_alone, behind_open, behind_alone, behind_else, opened_list, one_statement, pushed_few}
+use Rattle.qasm_expr.proofs.Loops.{repeating_start, repeating_stop, repeating_err, repeating_more}
+use Rattle.qasm_stmt.proofs.Lines.{word_heads}
+use Rattle.qasm_stmt.proofs.Nesting.{stmt_open, block_shut, block_inside, body_braced, body_alone, behind_open, behind_alone, behind_else, opened_list, one_statement, pushed_few}
 use Rattle.qasm_stmt.proofs.Compound.{close_same, turns_later, list_on, branch_line, while_line, subroutine_line, range_line, set_line}
 use Rattle.qasm_stmt.proofs.statements.+stmt.Goals.{conditional-then-taken-via-then-taken, conditional-then-taken-via-else-taken+then-not-sees_word, for_loop-in-Range, for_loop-in-Set}
 use Rattle.qasm_stmt.proofs.statements.+stmt.Goals as goal
 
 pub block-returns-in_err-inside-clause-gives : goal.block-returns-in_err-inside-clause-gives
 block-returns-in_err-inside-clause-gives t c =
-    leave_mark (IsBlock c.args.arena.now) c.args.tokens.now c.args.from c.args.from (read_opener c.args.text.now c.args.room (mark_kind m.LeftBrace) (drop c.args.from c.args.tokens.now)) _ c.in_err-inside.field-0.0 c.from_residual.result c.from_residual.ensures.1 (λ x h. block_shut c.args.text.now c.args.room (drop c.args.from c.args.tokens.now) x h) (le_refl _) c.requires.within c.in_err-inside.ensures.passes
+    handed_mark _ _ _ _ c.from_residual.ensures c.in_err-inside.ensures.passes (le_refl _) c.requires.within (λ x h. block_shut c.args.text.now c.args.room (drop c.args.from c.args.tokens.now) x h)
 
 pub block-returns-in_err-statements-clause-gives : goal.block-returns-in_err-statements-clause-gives
 block-returns-in_err-statements-clause-gives t c =
     let o = c.in_ok-inside.ensures.passes in
     let inside = block_inside c.args.text.now c.args.room (drop c.args.from c.args.tokens.now) (drop c.in_ok-inside.inside c.args.tokens.now) o.0 c.in_ok-inside.ensures.has_room o.4 in
-    leave (IsBlock c.stmts.new.arena) c.args.tokens.now c.args.from c.in_ok-inside.inside (read_all_stmts c.args.text.now (Some 64) (c.args.room - 1) (drop c.in_ok-inside.inside c.args.tokens.now)) _ c.in_err-statements.field-0.0 c.from_residual-in_err-statements.result c.from_residual-in_err-statements.ensures.1 (λ x h. inside ∙ rw (h) refl) (omega (arith, o.1)) c.in_err-statements.ensures.gives
+    handed _ _ _ _ c.from_residual-in_err-statements.ensures c.in_err-statements.ensures.gives (omega (arith, o.1)) (λ x h. inside ∙ rw (h) refl)
 
 pub block-returns-in_err-close-clause-gives : goal.block-returns-in_err-close-clause-gives
 block-returns-in_err-close-clause-gives t c =
     let o = c.in_ok-inside.ensures.passes in
     let inside = block_inside c.args.text.now c.args.room (drop c.args.from c.args.tokens.now) (drop c.in_ok-inside.inside c.args.tokens.now) o.0 c.in_ok-inside.ensures.has_room o.4 in
     let ss = c.in_ok-statements.ensures.gives in
-    leave (IsBlock c.stmts.new.arena) c.args.tokens.now c.args.from c.in_ok-statements.next (read_symbol c.args.text.now m.RightBrace (drop c.in_ok-statements.next c.args.tokens.now)) _ c.in_err-close.field-0.0 c.from_residual-in_err-close.result c.from_residual-in_err-close.ensures.1 (λ x h. inside ∙ rw (ss.4, h) refl) (omega (arith, o.1, ss.2)) c.in_err-close.ensures.gives
+    handed _ _ _ _ c.from_residual-in_err-close.ensures c.in_err-close.ensures.gives (omega (arith, o.1, ss.2)) (λ x h. inside ∙ rw (ss.4, h) refl)
 
 pub block-returns-clause-gives : goal.block-returns-clause-gives
 block-returns-clause-gives t c =
@@ -49,7 +50,7 @@ block-returns-clause-gives t c =
 pub body-returns-in_err-found-clause-gives : goal.body-returns-in_err-found-clause-gives
 body-returns-in_err-found-clause-gives t c =
     let braced = body_braced c.args.text.now c.args.room (drop c.args.from c.args.tokens.now) (heads_sign c.args.text.now (mark_kind m.LeftBrace) (drop c.args.from c.args.tokens.now) true (omega arith) (sym c.sees.ensures.value ∙ c.if-sees.true)) in
-    leave (IsBody c.block.new.arena) c.args.tokens.now c.args.from c.args.from (deeper_block c.args.text.now c.args.room (drop c.args.from c.args.tokens.now)) _ c.in_err-found.field-0.0 c.from_residual.result c.from_residual.ensures.1 (λ x h. braced ∙ rw (h) refl) (le_refl _) c.in_err-found.ensures.gives
+    handed _ _ _ _ c.from_residual.ensures c.in_err-found.ensures.gives (le_refl _) (λ x h. braced ∙ rw (h) refl)
 
 pub body-returns-then-sees-clause-gives : goal.body-returns-then-sees-clause-gives
 body-returns-then-sees-clause-gives t c =
@@ -60,7 +61,7 @@ body-returns-then-sees-clause-gives t c =
 pub body-returns-in_err-id-clause-gives : goal.body-returns-in_err-id-clause-gives
 body-returns-in_err-id-clause-gives t c =
     let alone = body_alone c.args.text.now c.args.room (drop c.args.from c.args.tokens.now) (omega (arith, c.if-room-eq0.false)) (heads_sign c.args.text.now (mark_kind m.LeftBrace) (drop c.args.from c.args.tokens.now) false (omega arith) (sym c.sees.ensures.value ∙ c.if-sees.false)) in
-    leave (IsBody c.stmt.new.arena) c.args.tokens.now c.args.from c.args.from (read_stmt c.args.text.now (Some 64) (c.args.room - 1) (drop c.args.from c.args.tokens.now)) _ c.in_err-id.field-0.0 c.from_residual-in_err-id.result c.from_residual-in_err-id.ensures.1 (λ x h. alone ∙ rw (h) refl) (le_refl _) c.in_err-id.ensures.gives
+    handed _ _ _ _ c.from_residual-in_err-id.ensures c.in_err-id.ensures.gives (le_refl _) (λ x h. alone ∙ rw (h) refl)
 
 pub body-returns-clause-gives : goal.body-returns-clause-gives
 body-returns-clause-gives t c =
@@ -72,20 +73,20 @@ body-returns-clause-gives t c =
 pub conditional-returns-in_err-at-clause-gives : goal.conditional-returns-in_err-at-clause-gives
 unfolding read_conditional
 conditional-returns-in_err-at-clause-gives t c =
-    leave (IsOpenLine c.args.arena.now) c.args.tokens.now c.args.from c.args.from (read_keyword c.args.text.now k.If (drop c.args.from c.args.tokens.now)) _ c.in_err-at.field-0.0 c.from_residual.result c.from_residual.ensures.1 (λ x h. rw (h) refl) (le_refl _) c.in_err-at.ensures.gives
+    handed _ _ _ _ c.from_residual.ensures c.in_err-at.ensures.gives (le_refl _) (λ x h. rw (h) refl)
 
 pub conditional-returns-in_err-test-clause-gives : goal.conditional-returns-in_err-test-clause-gives
 unfolding read_conditional
 conditional-returns-in_err-test-clause-gives t c =
     let w = c.in_ok-at.ensures.gives in
-    leave (IsOpenLine c.condition.new.arena) c.args.tokens.now c.args.from c.in_ok-at.next (read_condition c.args.text.now (Some 64) c.args.room (drop c.in_ok-at.next c.args.tokens.now)) _ c.in_err-test.field-0.0 c.from_residual-in_err-test.result c.from_residual-in_err-test.ensures.1 (λ x h. rw (w.4, h) refl) w.2 c.in_err-test.ensures.gives
+    handed _ _ _ _ c.from_residual-in_err-test.ensures c.in_err-test.ensures.gives w.2 (λ x h. rw (w.4, h) refl)
 
 pub conditional-returns-in_err-taken-clause-gives : goal.conditional-returns-in_err-taken-clause-gives
 unfolding read_conditional
 conditional-returns-in_err-taken-clause-gives t c =
     let w = c.in_ok-at.ensures.gives in
     let e = c.in_ok-test.ensures.gives in
-    leave (IsOpenLine c.body.new.arena) c.args.tokens.now c.args.from c.in_ok-test.next (deeper_body c.args.text.now c.args.room (drop c.in_ok-test.next c.args.tokens.now)) _ c.in_err-taken.field-0.0 c.from_residual-in_err-taken.result c.from_residual-in_err-taken.ensures.1 (λ x h. rw (w.4, e.4, h) refl) (omega (arith, w.2, e.2)) c.in_err-taken.ensures.gives
+    handed _ _ _ _ c.from_residual-in_err-taken.ensures c.in_err-taken.ensures.gives (omega (arith, w.2, e.2)) (λ x h. rw (w.4, e.4, h) refl)
 
 pub conditional-returns-then-taken-clause-gives : goal.conditional-returns-then-taken-clause-gives
 unfolding read_conditional
@@ -98,7 +99,7 @@ conditional-returns-then-taken-clause-gives t c =
     let empty : IsStatements c.body.new.arena c.new.result.items no_statement = subst (λ l. IsStatements c.body.new.arena l no_statement) (sym c.new.ensures.items) (opened_list c.body.new.arena [] [] (omega arith) tt) in
     let last = elim c.then-taken.branch as (λ z. read_behind_body c.args.text.now (deeper_body c.args.text.now c.args.room) e.0 w.0.at b.0 (drop c.in_ok-taken.next c.args.tokens.now) ≡ Ok (without_else e.0 w.0.at b.0, (drop c.in_ok-taken.next c.args.tokens.now))) [
       | conditional-then-taken-via-then-taken v ↦ behind_open c.args.text.now (deeper_body c.args.text.now c.args.room) e.0 w.0.at b.0 (drop c.in_ok-taken.next c.args.tokens.now) (sym b.1.1 ∙ v.if-taken.true)
-      | conditional-then-taken-via-else-taken+then-not-sees_word v ↦ behind_alone c.args.text.now (deeper_body c.args.text.now c.args.room) e.0 w.0.at b.0 (drop c.in_ok-taken.next c.args.tokens.now) (sym b.1.1 ∙ v.if-taken.false) (word_heads c.args.text.now k.Else (drop c.in_ok-taken.next c.args.tokens.now) v.sees_word.result false v.sees_word.ensures.value v.if-not-sees_word.true)
+      | conditional-then-taken-via-else-taken+then-not-sees_word v ↦ behind_alone c.args.text.now (deeper_body c.args.text.now c.args.room) e.0 w.0.at b.0 (drop c.in_ok-taken.next c.args.tokens.now) (sym b.1.1 ∙ v.if-taken.false) (word_heads c.args.text.now (drop c.in_ok-taken.next c.args.tokens.now) k.Else false (sym v.sees_word.ensures.value ∙ v.if-not-sees_word.true))
     ] in
     (without_else e.0 w.0.at b.0, (branch_line c.body.new.arena c.in_ok-at.at c.close_or-close.result w.0.at (close_or b.0.close w.0.at) w.1 shut c.in_ok-test.test c.in_ok-taken.taken.statements.items c.new.result.items e.0 b.0.statements no_statement test b.1.0 empty, refl), omega (arith, w.2, e.2, b.2), b.3, rw (w.4, e.4, b.4) last)
 
@@ -108,10 +109,10 @@ conditional-returns-in_err-other-clause-gives t c =
     let w = c.in_ok-at.ensures.gives in
     let e = c.in_ok-test.ensures.gives in
     let b = c.in_ok-taken.ensures.gives in
-    let here = word_heads c.args.text.now k.Else (drop c.in_ok-taken.next c.args.tokens.now) c.sees_word.result true c.sees_word.ensures.value c.if-not-sees_word.false in
+    let here = word_heads c.args.text.now (drop c.in_ok-taken.next c.args.tokens.now) k.Else true (sym c.sees_word.ensures.value ∙ c.if-not-sees_word.false) in
     let x = passes_yes c.args.text.now c.args.tokens.now c.in_ok-taken.next (keyword_kind k.Else) (omega arith) b.3 (sym c.sees_word.ensures.value ∙ c.if-not-sees_word.false) in
     let last = behind_else c.args.text.now (deeper_body c.args.text.now c.args.room) e.0 w.0.at b.0 (drop c.in_ok-taken.next c.args.tokens.now) x.0 (drop (c.in_ok-taken.next + 1) c.args.tokens.now) (sym b.1.1 ∙ c.if-taken.false) here x.4 in
-    leave (IsOpenLine c.body-2.new.arena) c.args.tokens.now c.args.from (c.in_ok-taken.next + 1) (deeper_body c.args.text.now c.args.room (drop (c.in_ok-taken.next + 1) c.args.tokens.now)) _ c.in_err-other.field-0.0 c.from_residual-in_err-other.result c.from_residual-in_err-other.ensures.1 (λ x h. rw (w.4, e.4, b.4) (last ∙ rw h refl)) (omega (arith, w.2, e.2, b.2)) c.in_err-other.ensures.gives
+    handed _ _ _ _ c.from_residual-in_err-other.ensures c.in_err-other.ensures.gives (omega (arith, w.2, e.2, b.2)) (λ x h. rw (w.4, e.4, b.4) (last ∙ rw h refl))
 
 pub conditional-returns-clause-gives : goal.conditional-returns-clause-gives
 unfolding read_conditional
@@ -119,7 +120,7 @@ conditional-returns-clause-gives t c =
     let w = c.in_ok-at.ensures.gives in
     let e = c.in_ok-test.ensures.gives in
     let b = c.in_ok-taken.ensures.gives in
-    let here = word_heads c.args.text.now k.Else (drop c.in_ok-taken.next c.args.tokens.now) c.sees_word.result true c.sees_word.ensures.value c.if-not-sees_word.false in
+    let here = word_heads c.args.text.now (drop c.in_ok-taken.next c.args.tokens.now) k.Else true (sym c.sees_word.ensures.value ∙ c.if-not-sees_word.false) in
     let x = passes_yes c.args.text.now c.args.tokens.now c.in_ok-taken.next (keyword_kind k.Else) (omega arith) b.3 (sym c.sees_word.ensures.value ∙ c.if-not-sees_word.false) in
     let last = behind_else c.args.text.now (deeper_body c.args.text.now c.args.room) e.0 w.0.at b.0 (drop c.in_ok-taken.next c.args.tokens.now) x.0 (drop (c.in_ok-taken.next + 1) c.args.tokens.now) (sym b.1.1 ∙ c.if-taken.false) here x.4 in
     let d = c.in_ok-other.ensures.gives in
@@ -131,20 +132,20 @@ conditional-returns-clause-gives t c =
 pub while_loop-returns-in_err-at-clause-gives : goal.while_loop-returns-in_err-at-clause-gives
 unfolding read_while_loop
 while_loop-returns-in_err-at-clause-gives t c =
-    leave (IsOpenLine c.args.arena.now) c.args.tokens.now c.args.from c.args.from (read_keyword c.args.text.now k.While (drop c.args.from c.args.tokens.now)) _ c.in_err-at.field-0.0 c.from_residual.result c.from_residual.ensures.1 (λ x h. rw (h) refl) (le_refl _) c.in_err-at.ensures.gives
+    handed _ _ _ _ c.from_residual.ensures c.in_err-at.ensures.gives (le_refl _) (λ x h. rw (h) refl)
 
 pub while_loop-returns-in_err-test-clause-gives : goal.while_loop-returns-in_err-test-clause-gives
 unfolding read_while_loop
 while_loop-returns-in_err-test-clause-gives t c =
     let w = c.in_ok-at.ensures.gives in
-    leave (IsOpenLine c.condition.new.arena) c.args.tokens.now c.args.from c.in_ok-at.next (read_condition c.args.text.now (Some 64) c.args.room (drop c.in_ok-at.next c.args.tokens.now)) _ c.in_err-test.field-0.0 c.from_residual-in_err-test.result c.from_residual-in_err-test.ensures.1 (λ x h. rw (w.4, h) refl) w.2 c.in_err-test.ensures.gives
+    handed _ _ _ _ c.from_residual-in_err-test.ensures c.in_err-test.ensures.gives w.2 (λ x h. rw (w.4, h) refl)
 
 pub while_loop-returns-in_err-turn-clause-gives : goal.while_loop-returns-in_err-turn-clause-gives
 unfolding read_while_loop
 while_loop-returns-in_err-turn-clause-gives t c =
     let w = c.in_ok-at.ensures.gives in
     let e = c.in_ok-test.ensures.gives in
-    leave (IsOpenLine c.body.new.arena) c.args.tokens.now c.args.from c.in_ok-test.next (deeper_body c.args.text.now c.args.room (drop c.in_ok-test.next c.args.tokens.now)) _ c.in_err-turn.field-0.0 c.from_residual-in_err-turn.result c.from_residual-in_err-turn.ensures.1 (λ x h. rw (w.4, e.4, h) refl) (omega (arith, w.2, e.2)) c.in_err-turn.ensures.gives
+    handed _ _ _ _ c.from_residual-in_err-turn.ensures c.in_err-turn.ensures.gives (omega (arith, w.2, e.2)) (λ x h. rw (w.4, e.4, h) refl)
 
 pub while_loop-returns-clause-gives : goal.while_loop-returns-clause-gives
 unfolding read_while_loop
@@ -159,20 +160,20 @@ while_loop-returns-clause-gives t c =
 pub for_loop-returns-in_err-at-clause-gives : goal.for_loop-returns-in_err-at-clause-gives
 unfolding read_for_loop
 for_loop-returns-in_err-at-clause-gives t c =
-    leave (IsOpenLine c.args.arena.now) c.args.tokens.now c.args.from c.args.from (read_keyword c.args.text.now k.For (drop c.args.from c.args.tokens.now)) _ c.in_err-at.field-0.0 c.from_residual.result c.from_residual.ensures.1 (λ x h. rw (h) refl) (le_refl _) c.in_err-at.ensures.gives
+    handed _ _ _ _ c.from_residual.ensures c.in_err-at.ensures.gives (le_refl _) (λ x h. rw (h) refl)
 
 pub for_loop-returns-in_err-ty-clause-gives : goal.for_loop-returns-in_err-ty-clause-gives
 unfolding read_for_loop
 for_loop-returns-in_err-ty-clause-gives t c =
     let w = c.in_ok-at.ensures.gives in
-    leave (IsOpenLine c.any_type.new.arena) c.args.tokens.now c.args.from c.in_ok-at.next (read_any_type c.args.text.now (Some 64) c.args.room (drop c.in_ok-at.next c.args.tokens.now)) _ c.in_err-ty.field-0.0 c.from_residual-in_err-ty.result c.from_residual-in_err-ty.ensures.1 (λ x h. rw (w.4, h) refl) w.2 c.in_err-ty.ensures.gives
+    handed _ _ _ _ c.from_residual-in_err-ty.ensures c.in_err-ty.ensures.gives w.2 (λ x h. rw (w.4, h) refl)
 
 pub for_loop-returns-in_err-name-clause-gives : goal.for_loop-returns-in_err-name-clause-gives
 unfolding read_for_loop
 for_loop-returns-in_err-name-clause-gives t c =
     let w = c.in_ok-at.ensures.gives in
     let s = c.in_ok-ty.ensures.gives in
-    leave (IsOpenLine c.declared.new.arena) c.args.tokens.now c.args.from c.in_ok-ty.next (read_name c.args.text.now (drop c.in_ok-ty.next c.args.tokens.now)) _ c.in_err-name.field-0.0 c.from_residual-in_err-name.result c.from_residual-in_err-name.ensures.1 (λ x h. rw (w.4, s.4, h) refl) (omega (arith, w.2, s.2)) c.in_err-name.ensures.gives
+    handed _ _ _ _ c.from_residual-in_err-name.ensures c.in_err-name.ensures.gives (omega (arith, w.2, s.2)) (λ x h. rw (w.4, s.4, h) refl)
 
 pub for_loop-returns-in_err-next-clause-gives : goal.for_loop-returns-in_err-next-clause-gives
 unfolding read_for_loop
@@ -180,7 +181,7 @@ for_loop-returns-in_err-next-clause-gives t c =
     let w = c.in_ok-at.ensures.gives in
     let s = c.in_ok-ty.ensures.gives in
     let n = c.in_ok-name.ensures.gives in
-    leave (IsOpenLine c.declared.new.arena) c.args.tokens.now c.args.from c.in_ok-name.next (read_keyword c.args.text.now k.In (drop c.in_ok-name.next c.args.tokens.now)) _ c.in_err-next.field-0.0 c.from_residual-in_err-next.result c.from_residual-in_err-next.ensures.1 (λ x h. rw (w.4, s.4, n.4, h) refl) (omega (arith, w.2, s.2, n.2)) c.in_err-next.ensures.gives
+    handed _ _ _ _ c.from_residual-in_err-next.ensures c.in_err-next.ensures.gives (omega (arith, w.2, s.2, n.2)) (λ x h. rw (w.4, s.4, n.4, h) refl)
 
 pub for_loop-returns-in_err-over-clause-gives : goal.for_loop-returns-in_err-over-clause-gives
 unfolding read_for_loop
@@ -189,7 +190,7 @@ for_loop-returns-in_err-over-clause-gives t c =
     let s = c.in_ok-ty.ensures.gives in
     let n = c.in_ok-name.ensures.gives in
     let i = c.in_ok-next.ensures.gives in
-    leave (IsOpenLine c.turns.new.arena) c.args.tokens.now c.args.from c.in_ok-next.next (read_turns c.args.text.now (Some 64) c.args.room (drop c.in_ok-next.next c.args.tokens.now)) _ c.in_err-over.field-0.0 c.from_residual-in_err-over.result c.from_residual-in_err-over.ensures.1 (λ x h. rw (w.4, s.4, n.4, i.4, h) refl) (omega (arith, w.2, s.2, n.2, i.2)) c.in_err-over.ensures.gives
+    handed _ _ _ _ c.from_residual-in_err-over.ensures c.in_err-over.ensures.gives (omega (arith, w.2, s.2, n.2, i.2)) (λ x h. rw (w.4, s.4, n.4, i.4, h) refl)
 
 pub for_loop-returns-in_err-turn-clause-gives : goal.for_loop-returns-in_err-turn-clause-gives
 unfolding read_for_loop
@@ -199,7 +200,7 @@ for_loop-returns-in_err-turn-clause-gives t c =
     let n = c.in_ok-name.ensures.gives in
     let i = c.in_ok-next.ensures.gives in
     let r = c.in_ok-over.ensures.gives in
-    leave (IsOpenLine c.body.new.arena) c.args.tokens.now c.args.from c.in_ok-over.next (deeper_body c.args.text.now c.args.room (drop c.in_ok-over.next c.args.tokens.now)) _ c.in_err-turn.field-0.0 c.from_residual-in_err-turn.result c.from_residual-in_err-turn.ensures.1 (λ x h. rw (w.4, s.4, n.4, i.4, r.4, h) refl) (omega (arith, w.2, s.2, n.2, i.2, r.2)) c.in_err-turn.ensures.gives
+    handed _ _ _ _ c.from_residual-in_err-turn.ensures c.in_err-turn.ensures.gives (omega (arith, w.2, s.2, n.2, i.2, r.2)) (λ x h. rw (w.4, s.4, n.4, i.4, r.4, h) refl)
 
 pub for_loop-returns-clause-gives : goal.for_loop-returns-clause-gives
 unfolding read_for_loop
@@ -227,85 +228,85 @@ for_loop-returns-clause-grown t c =
 pub control-returns-then-sees_word-clause-gives : goal.control-returns-then-sees_word-clause-gives
 unfolding read_control
 control-returns-then-sees_word-clause-gives t c =
-    behind (IsOpenLine c.conditional.new.arena) c.args.tokens.now c.args.from c.args.from (read_control c.args.text.now (Some 64) c.args.room (deeper_body c.args.text.now c.args.room) (drop c.args.from c.args.tokens.now)) (read_conditional c.args.text.now (Some 64) c.args.room (deeper_body c.args.text.now c.args.room) (drop c.args.from c.args.tokens.now)) c.conditional.result (le_refl _) (rw (word_heads c.args.text.now k.If (drop c.args.from c.args.tokens.now) c.sees_word.result true c.sees_word.ensures.value c.if-sees_word.true) refl) c.conditional.ensures.gives
+    behind (IsOpenLine c.conditional.new.arena) c.args.tokens.now c.args.from c.args.from (read_control c.args.text.now (Some 64) c.args.room (deeper_body c.args.text.now c.args.room) (drop c.args.from c.args.tokens.now)) (read_conditional c.args.text.now (Some 64) c.args.room (deeper_body c.args.text.now c.args.room) (drop c.args.from c.args.tokens.now)) c.conditional.result (le_refl _) (rw (word_heads c.args.text.now (drop c.args.from c.args.tokens.now) k.If true (sym c.sees_word.ensures.value ∙ c.if-sees_word.true)) refl) c.conditional.ensures.gives
 
 pub control-returns-then-sees_word-2-clause-gives : goal.control-returns-then-sees_word-2-clause-gives
 unfolding read_control
 control-returns-then-sees_word-2-clause-gives t c =
-    behind (IsOpenLine c.while_loop.new.arena) c.args.tokens.now c.args.from c.args.from (read_control c.args.text.now (Some 64) c.args.room (deeper_body c.args.text.now c.args.room) (drop c.args.from c.args.tokens.now)) (read_while_loop c.args.text.now (Some 64) c.args.room (deeper_body c.args.text.now c.args.room) (drop c.args.from c.args.tokens.now)) c.while_loop.result (le_refl _) (rw (word_heads c.args.text.now k.If (drop c.args.from c.args.tokens.now) c.sees_word.result false c.sees_word.ensures.value c.if-sees_word.false, word_heads c.args.text.now k.While (drop c.args.from c.args.tokens.now) c.sees_word-2.result true c.sees_word-2.ensures.value c.if-sees_word-2.true) refl) c.while_loop.ensures.gives
+    behind (IsOpenLine c.while_loop.new.arena) c.args.tokens.now c.args.from c.args.from (read_control c.args.text.now (Some 64) c.args.room (deeper_body c.args.text.now c.args.room) (drop c.args.from c.args.tokens.now)) (read_while_loop c.args.text.now (Some 64) c.args.room (deeper_body c.args.text.now c.args.room) (drop c.args.from c.args.tokens.now)) c.while_loop.result (le_refl _) (rw (word_heads c.args.text.now (drop c.args.from c.args.tokens.now) k.If false (sym c.sees_word.ensures.value ∙ c.if-sees_word.false), word_heads c.args.text.now (drop c.args.from c.args.tokens.now) k.While true (sym c.sees_word-2.ensures.value ∙ c.if-sees_word-2.true)) refl) c.while_loop.ensures.gives
 
 pub control-returns-clause-gives : goal.control-returns-clause-gives
 unfolding read_control
 control-returns-clause-gives t c =
-    behind (IsOpenLine c.for_loop.new.arena) c.args.tokens.now c.args.from c.args.from (read_control c.args.text.now (Some 64) c.args.room (deeper_body c.args.text.now c.args.room) (drop c.args.from c.args.tokens.now)) (read_for_loop c.args.text.now (Some 64) c.args.room (deeper_body c.args.text.now c.args.room) (drop c.args.from c.args.tokens.now)) c.for_loop.result (le_refl _) (rw (word_heads c.args.text.now k.If (drop c.args.from c.args.tokens.now) c.sees_word.result false c.sees_word.ensures.value c.if-sees_word.false, word_heads c.args.text.now k.While (drop c.args.from c.args.tokens.now) c.sees_word-2.result false c.sees_word-2.ensures.value c.if-sees_word-2.false) refl) c.for_loop.ensures.gives
+    behind (IsOpenLine c.for_loop.new.arena) c.args.tokens.now c.args.from c.args.from (read_control c.args.text.now (Some 64) c.args.room (deeper_body c.args.text.now c.args.room) (drop c.args.from c.args.tokens.now)) (read_for_loop c.args.text.now (Some 64) c.args.room (deeper_body c.args.text.now c.args.room) (drop c.args.from c.args.tokens.now)) c.for_loop.result (le_refl _) (rw (word_heads c.args.text.now (drop c.args.from c.args.tokens.now) k.If false (sym c.sees_word.ensures.value ∙ c.if-sees_word.false), word_heads c.args.text.now (drop c.args.from c.args.tokens.now) k.While false (sym c.sees_word-2.ensures.value ∙ c.if-sees_word-2.false)) refl) c.for_loop.ensures.gives
 
 pub declaration-returns-then-sees_word-clause-gives : goal.declaration-returns-then-sees_word-clause-gives
 unfolding read_declaration
 declaration-returns-then-sees_word-clause-gives t c =
-    behind (IsLine c.args.arena.now) c.args.tokens.now c.args.from c.args.from (read_declaration c.args.text.now (Some 64) c.args.room (deeper_block c.args.text.now c.args.room) (drop c.args.from c.args.tokens.now)) (read_inclusion c.args.text.now (drop c.args.from c.args.tokens.now)) c.inclusion.result (le_refl _) (rw (word_heads c.args.text.now k.Include (drop c.args.from c.args.tokens.now) c.sees_word.result true c.sees_word.ensures.value c.if-sees_word.true) refl) c.inclusion.ensures.gives
+    behind (IsLine c.args.arena.now) c.args.tokens.now c.args.from c.args.from (read_declaration c.args.text.now (Some 64) c.args.room (deeper_block c.args.text.now c.args.room) (drop c.args.from c.args.tokens.now)) (read_inclusion c.args.text.now (drop c.args.from c.args.tokens.now)) c.inclusion.result (le_refl _) (rw (word_heads c.args.text.now (drop c.args.from c.args.tokens.now) k.Include true (sym c.sees_word.ensures.value ∙ c.if-sees_word.true)) refl) c.inclusion.ensures.gives
 
 pub declaration-returns-then-sees_word-2-clause-gives : goal.declaration-returns-then-sees_word-2-clause-gives
 unfolding read_declaration
 declaration-returns-then-sees_word-2-clause-gives t c =
-    behind (IsLine c.qubit_line.new.arena) c.args.tokens.now c.args.from c.args.from (read_declaration c.args.text.now (Some 64) c.args.room (deeper_block c.args.text.now c.args.room) (drop c.args.from c.args.tokens.now)) (read_qubit_line c.args.text.now (Some 64) c.args.room (drop c.args.from c.args.tokens.now)) c.qubit_line.result (le_refl _) (rw (word_heads c.args.text.now k.Include (drop c.args.from c.args.tokens.now) c.sees_word.result false c.sees_word.ensures.value c.if-sees_word.false, word_heads c.args.text.now k.Qubit (drop c.args.from c.args.tokens.now) c.sees_word-2.result true c.sees_word-2.ensures.value c.if-sees_word-2.true) refl) c.qubit_line.ensures.gives
+    behind (IsLine c.qubit_line.new.arena) c.args.tokens.now c.args.from c.args.from (read_declaration c.args.text.now (Some 64) c.args.room (deeper_block c.args.text.now c.args.room) (drop c.args.from c.args.tokens.now)) (read_qubit_line c.args.text.now (Some 64) c.args.room (drop c.args.from c.args.tokens.now)) c.qubit_line.result (le_refl _) (rw (word_heads c.args.text.now (drop c.args.from c.args.tokens.now) k.Include false (sym c.sees_word.ensures.value ∙ c.if-sees_word.false), word_heads c.args.text.now (drop c.args.from c.args.tokens.now) k.Qubit true (sym c.sees_word-2.ensures.value ∙ c.if-sees_word-2.true)) refl) c.qubit_line.ensures.gives
 
 pub declaration-returns-then-sees_word-3-clause-gives : goal.declaration-returns-then-sees_word-3-clause-gives
 unfolding read_declaration
 declaration-returns-then-sees_word-3-clause-gives t c =
-    behind (IsLine c.qreg_line.new.arena) c.args.tokens.now c.args.from c.args.from (read_declaration c.args.text.now (Some 64) c.args.room (deeper_block c.args.text.now c.args.room) (drop c.args.from c.args.tokens.now)) (read_qreg_line c.args.text.now (Some 64) c.args.room (drop c.args.from c.args.tokens.now)) c.qreg_line.result (le_refl _) (rw (word_heads c.args.text.now k.Include (drop c.args.from c.args.tokens.now) c.sees_word.result false c.sees_word.ensures.value c.if-sees_word.false, word_heads c.args.text.now k.Qubit (drop c.args.from c.args.tokens.now) c.sees_word-2.result false c.sees_word-2.ensures.value c.if-sees_word-2.false, word_heads c.args.text.now k.Qreg (drop c.args.from c.args.tokens.now) c.sees_word-3.result true c.sees_word-3.ensures.value c.if-sees_word-3.true) refl) c.qreg_line.ensures.gives
+    behind (IsLine c.qreg_line.new.arena) c.args.tokens.now c.args.from c.args.from (read_declaration c.args.text.now (Some 64) c.args.room (deeper_block c.args.text.now c.args.room) (drop c.args.from c.args.tokens.now)) (read_qreg_line c.args.text.now (Some 64) c.args.room (drop c.args.from c.args.tokens.now)) c.qreg_line.result (le_refl _) (rw (word_heads c.args.text.now (drop c.args.from c.args.tokens.now) k.Include false (sym c.sees_word.ensures.value ∙ c.if-sees_word.false), word_heads c.args.text.now (drop c.args.from c.args.tokens.now) k.Qubit false (sym c.sees_word-2.ensures.value ∙ c.if-sees_word-2.false), word_heads c.args.text.now (drop c.args.from c.args.tokens.now) k.Qreg true (sym c.sees_word-3.ensures.value ∙ c.if-sees_word-3.true)) refl) c.qreg_line.ensures.gives
 
 pub declaration-returns-then-sees_word-4-clause-gives : goal.declaration-returns-then-sees_word-4-clause-gives
 unfolding read_declaration
 declaration-returns-then-sees_word-4-clause-gives t c =
-    behind (IsLine c.creg_line.new.arena) c.args.tokens.now c.args.from c.args.from (read_declaration c.args.text.now (Some 64) c.args.room (deeper_block c.args.text.now c.args.room) (drop c.args.from c.args.tokens.now)) (read_creg_line c.args.text.now (Some 64) c.args.room (drop c.args.from c.args.tokens.now)) c.creg_line.result (le_refl _) (rw (word_heads c.args.text.now k.Include (drop c.args.from c.args.tokens.now) c.sees_word.result false c.sees_word.ensures.value c.if-sees_word.false, word_heads c.args.text.now k.Qubit (drop c.args.from c.args.tokens.now) c.sees_word-2.result false c.sees_word-2.ensures.value c.if-sees_word-2.false, word_heads c.args.text.now k.Qreg (drop c.args.from c.args.tokens.now) c.sees_word-3.result false c.sees_word-3.ensures.value c.if-sees_word-3.false, word_heads c.args.text.now k.Creg (drop c.args.from c.args.tokens.now) c.sees_word-4.result true c.sees_word-4.ensures.value c.if-sees_word-4.true) refl) c.creg_line.ensures.gives
+    behind (IsLine c.creg_line.new.arena) c.args.tokens.now c.args.from c.args.from (read_declaration c.args.text.now (Some 64) c.args.room (deeper_block c.args.text.now c.args.room) (drop c.args.from c.args.tokens.now)) (read_creg_line c.args.text.now (Some 64) c.args.room (drop c.args.from c.args.tokens.now)) c.creg_line.result (le_refl _) (rw (word_heads c.args.text.now (drop c.args.from c.args.tokens.now) k.Include false (sym c.sees_word.ensures.value ∙ c.if-sees_word.false), word_heads c.args.text.now (drop c.args.from c.args.tokens.now) k.Qubit false (sym c.sees_word-2.ensures.value ∙ c.if-sees_word-2.false), word_heads c.args.text.now (drop c.args.from c.args.tokens.now) k.Qreg false (sym c.sees_word-3.ensures.value ∙ c.if-sees_word-3.false), word_heads c.args.text.now (drop c.args.from c.args.tokens.now) k.Creg true (sym c.sees_word-4.ensures.value ∙ c.if-sees_word-4.true)) refl) c.creg_line.ensures.gives
 
 pub declaration-returns-then-begins_type-clause-gives : goal.declaration-returns-then-begins_type-clause-gives
 unfolding read_declaration
 declaration-returns-then-begins_type-clause-gives t c =
-    behind (IsLine c.variable_line.new.arena) c.args.tokens.now c.args.from c.args.from (read_declaration c.args.text.now (Some 64) c.args.room (deeper_block c.args.text.now c.args.room) (drop c.args.from c.args.tokens.now)) (read_variable_line c.args.text.now (Some 64) c.args.room (drop c.args.from c.args.tokens.now)) c.variable_line.result (le_refl _) (rw (word_heads c.args.text.now k.Include (drop c.args.from c.args.tokens.now) c.sees_word.result false c.sees_word.ensures.value c.if-sees_word.false, word_heads c.args.text.now k.Qubit (drop c.args.from c.args.tokens.now) c.sees_word-2.result false c.sees_word-2.ensures.value c.if-sees_word-2.false, word_heads c.args.text.now k.Qreg (drop c.args.from c.args.tokens.now) c.sees_word-3.result false c.sees_word-3.ensures.value c.if-sees_word-3.false, word_heads c.args.text.now k.Creg (drop c.args.from c.args.tokens.now) c.sees_word-4.result false c.sees_word-4.ensures.value c.if-sees_word-4.false, sym c.begins_type.ensures ∙ c.if-begins_type.true) refl) c.variable_line.ensures.gives
+    behind (IsLine c.variable_line.new.arena) c.args.tokens.now c.args.from c.args.from (read_declaration c.args.text.now (Some 64) c.args.room (deeper_block c.args.text.now c.args.room) (drop c.args.from c.args.tokens.now)) (read_variable_line c.args.text.now (Some 64) c.args.room (drop c.args.from c.args.tokens.now)) c.variable_line.result (le_refl _) (rw (word_heads c.args.text.now (drop c.args.from c.args.tokens.now) k.Include false (sym c.sees_word.ensures.value ∙ c.if-sees_word.false), word_heads c.args.text.now (drop c.args.from c.args.tokens.now) k.Qubit false (sym c.sees_word-2.ensures.value ∙ c.if-sees_word-2.false), word_heads c.args.text.now (drop c.args.from c.args.tokens.now) k.Qreg false (sym c.sees_word-3.ensures.value ∙ c.if-sees_word-3.false), word_heads c.args.text.now (drop c.args.from c.args.tokens.now) k.Creg false (sym c.sees_word-4.ensures.value ∙ c.if-sees_word-4.false), sym c.begins_type.ensures ∙ c.if-begins_type.true) refl) c.variable_line.ensures.gives
 
 pub declaration-returns-then-sees_word-5-clause-gives : goal.declaration-returns-then-sees_word-5-clause-gives
 unfolding read_declaration
 declaration-returns-then-sees_word-5-clause-gives t c =
-    behind (IsLine c.constant_line.new.arena) c.args.tokens.now c.args.from c.args.from (read_declaration c.args.text.now (Some 64) c.args.room (deeper_block c.args.text.now c.args.room) (drop c.args.from c.args.tokens.now)) (read_constant_line c.args.text.now (Some 64) c.args.room (drop c.args.from c.args.tokens.now)) c.constant_line.result (le_refl _) (rw (word_heads c.args.text.now k.Include (drop c.args.from c.args.tokens.now) c.sees_word.result false c.sees_word.ensures.value c.if-sees_word.false, word_heads c.args.text.now k.Qubit (drop c.args.from c.args.tokens.now) c.sees_word-2.result false c.sees_word-2.ensures.value c.if-sees_word-2.false, word_heads c.args.text.now k.Qreg (drop c.args.from c.args.tokens.now) c.sees_word-3.result false c.sees_word-3.ensures.value c.if-sees_word-3.false, word_heads c.args.text.now k.Creg (drop c.args.from c.args.tokens.now) c.sees_word-4.result false c.sees_word-4.ensures.value c.if-sees_word-4.false, sym c.begins_type.ensures ∙ c.if-begins_type.false, word_heads c.args.text.now k.Const (drop c.args.from c.args.tokens.now) c.sees_word-5.result true c.sees_word-5.ensures.value c.if-sees_word-5.true) refl) c.constant_line.ensures.gives
+    behind (IsLine c.constant_line.new.arena) c.args.tokens.now c.args.from c.args.from (read_declaration c.args.text.now (Some 64) c.args.room (deeper_block c.args.text.now c.args.room) (drop c.args.from c.args.tokens.now)) (read_constant_line c.args.text.now (Some 64) c.args.room (drop c.args.from c.args.tokens.now)) c.constant_line.result (le_refl _) (rw (word_heads c.args.text.now (drop c.args.from c.args.tokens.now) k.Include false (sym c.sees_word.ensures.value ∙ c.if-sees_word.false), word_heads c.args.text.now (drop c.args.from c.args.tokens.now) k.Qubit false (sym c.sees_word-2.ensures.value ∙ c.if-sees_word-2.false), word_heads c.args.text.now (drop c.args.from c.args.tokens.now) k.Qreg false (sym c.sees_word-3.ensures.value ∙ c.if-sees_word-3.false), word_heads c.args.text.now (drop c.args.from c.args.tokens.now) k.Creg false (sym c.sees_word-4.ensures.value ∙ c.if-sees_word-4.false), sym c.begins_type.ensures ∙ c.if-begins_type.false, word_heads c.args.text.now (drop c.args.from c.args.tokens.now) k.Const true (sym c.sees_word-5.ensures.value ∙ c.if-sees_word-5.true)) refl) c.constant_line.ensures.gives
 
 pub declaration-returns-then-sees_word-6-clause-gives : goal.declaration-returns-then-sees_word-6-clause-gives
 unfolding read_declaration
 declaration-returns-then-sees_word-6-clause-gives t c =
-    behind (IsLine c.output_line.new.arena) c.args.tokens.now c.args.from c.args.from (read_declaration c.args.text.now (Some 64) c.args.room (deeper_block c.args.text.now c.args.room) (drop c.args.from c.args.tokens.now)) (read_output_line c.args.text.now (Some 64) c.args.room (drop c.args.from c.args.tokens.now)) c.output_line.result (le_refl _) (rw (word_heads c.args.text.now k.Include (drop c.args.from c.args.tokens.now) c.sees_word.result false c.sees_word.ensures.value c.if-sees_word.false, word_heads c.args.text.now k.Qubit (drop c.args.from c.args.tokens.now) c.sees_word-2.result false c.sees_word-2.ensures.value c.if-sees_word-2.false, word_heads c.args.text.now k.Qreg (drop c.args.from c.args.tokens.now) c.sees_word-3.result false c.sees_word-3.ensures.value c.if-sees_word-3.false, word_heads c.args.text.now k.Creg (drop c.args.from c.args.tokens.now) c.sees_word-4.result false c.sees_word-4.ensures.value c.if-sees_word-4.false, sym c.begins_type.ensures ∙ c.if-begins_type.false, word_heads c.args.text.now k.Const (drop c.args.from c.args.tokens.now) c.sees_word-5.result false c.sees_word-5.ensures.value c.if-sees_word-5.false, word_heads c.args.text.now k.Output (drop c.args.from c.args.tokens.now) c.sees_word-6.result true c.sees_word-6.ensures.value c.if-sees_word-6.true) refl) c.output_line.ensures.gives
+    behind (IsLine c.output_line.new.arena) c.args.tokens.now c.args.from c.args.from (read_declaration c.args.text.now (Some 64) c.args.room (deeper_block c.args.text.now c.args.room) (drop c.args.from c.args.tokens.now)) (read_output_line c.args.text.now (Some 64) c.args.room (drop c.args.from c.args.tokens.now)) c.output_line.result (le_refl _) (rw (word_heads c.args.text.now (drop c.args.from c.args.tokens.now) k.Include false (sym c.sees_word.ensures.value ∙ c.if-sees_word.false), word_heads c.args.text.now (drop c.args.from c.args.tokens.now) k.Qubit false (sym c.sees_word-2.ensures.value ∙ c.if-sees_word-2.false), word_heads c.args.text.now (drop c.args.from c.args.tokens.now) k.Qreg false (sym c.sees_word-3.ensures.value ∙ c.if-sees_word-3.false), word_heads c.args.text.now (drop c.args.from c.args.tokens.now) k.Creg false (sym c.sees_word-4.ensures.value ∙ c.if-sees_word-4.false), sym c.begins_type.ensures ∙ c.if-begins_type.false, word_heads c.args.text.now (drop c.args.from c.args.tokens.now) k.Const false (sym c.sees_word-5.ensures.value ∙ c.if-sees_word-5.false), word_heads c.args.text.now (drop c.args.from c.args.tokens.now) k.Output true (sym c.sees_word-6.ensures.value ∙ c.if-sees_word-6.true)) refl) c.output_line.ensures.gives
 
 pub declaration-returns-then-sees_word-7-clause-gives : goal.declaration-returns-then-sees_word-7-clause-gives
 unfolding read_declaration
 declaration-returns-then-sees_word-7-clause-gives t c =
-    behind (IsLine c.alias_line.new.arena) c.args.tokens.now c.args.from c.args.from (read_declaration c.args.text.now (Some 64) c.args.room (deeper_block c.args.text.now c.args.room) (drop c.args.from c.args.tokens.now)) (read_alias_line c.args.text.now (Some 64) c.args.room (drop c.args.from c.args.tokens.now)) c.alias_line.result (le_refl _) (rw (word_heads c.args.text.now k.Include (drop c.args.from c.args.tokens.now) c.sees_word.result false c.sees_word.ensures.value c.if-sees_word.false, word_heads c.args.text.now k.Qubit (drop c.args.from c.args.tokens.now) c.sees_word-2.result false c.sees_word-2.ensures.value c.if-sees_word-2.false, word_heads c.args.text.now k.Qreg (drop c.args.from c.args.tokens.now) c.sees_word-3.result false c.sees_word-3.ensures.value c.if-sees_word-3.false, word_heads c.args.text.now k.Creg (drop c.args.from c.args.tokens.now) c.sees_word-4.result false c.sees_word-4.ensures.value c.if-sees_word-4.false, sym c.begins_type.ensures ∙ c.if-begins_type.false, word_heads c.args.text.now k.Const (drop c.args.from c.args.tokens.now) c.sees_word-5.result false c.sees_word-5.ensures.value c.if-sees_word-5.false, word_heads c.args.text.now k.Output (drop c.args.from c.args.tokens.now) c.sees_word-6.result false c.sees_word-6.ensures.value c.if-sees_word-6.false, word_heads c.args.text.now k.Let (drop c.args.from c.args.tokens.now) c.sees_word-7.result true c.sees_word-7.ensures.value c.if-sees_word-7.true) refl) c.alias_line.ensures.gives
+    behind (IsLine c.alias_line.new.arena) c.args.tokens.now c.args.from c.args.from (read_declaration c.args.text.now (Some 64) c.args.room (deeper_block c.args.text.now c.args.room) (drop c.args.from c.args.tokens.now)) (read_alias_line c.args.text.now (Some 64) c.args.room (drop c.args.from c.args.tokens.now)) c.alias_line.result (le_refl _) (rw (word_heads c.args.text.now (drop c.args.from c.args.tokens.now) k.Include false (sym c.sees_word.ensures.value ∙ c.if-sees_word.false), word_heads c.args.text.now (drop c.args.from c.args.tokens.now) k.Qubit false (sym c.sees_word-2.ensures.value ∙ c.if-sees_word-2.false), word_heads c.args.text.now (drop c.args.from c.args.tokens.now) k.Qreg false (sym c.sees_word-3.ensures.value ∙ c.if-sees_word-3.false), word_heads c.args.text.now (drop c.args.from c.args.tokens.now) k.Creg false (sym c.sees_word-4.ensures.value ∙ c.if-sees_word-4.false), sym c.begins_type.ensures ∙ c.if-begins_type.false, word_heads c.args.text.now (drop c.args.from c.args.tokens.now) k.Const false (sym c.sees_word-5.ensures.value ∙ c.if-sees_word-5.false), word_heads c.args.text.now (drop c.args.from c.args.tokens.now) k.Output false (sym c.sees_word-6.ensures.value ∙ c.if-sees_word-6.false), word_heads c.args.text.now (drop c.args.from c.args.tokens.now) k.Let true (sym c.sees_word-7.ensures.value ∙ c.if-sees_word-7.true)) refl) c.alias_line.ensures.gives
 
 pub declaration-returns-then-sees_word-8-clause-gives : goal.declaration-returns-then-sees_word-8-clause-gives
 unfolding read_declaration
 declaration-returns-then-sees_word-8-clause-gives t c =
-    behind (IsLine c.gate_definition.new.arena) c.args.tokens.now c.args.from c.args.from (read_declaration c.args.text.now (Some 64) c.args.room (deeper_block c.args.text.now c.args.room) (drop c.args.from c.args.tokens.now)) (read_gate_definition c.args.text.now (Some 64) c.args.room (drop c.args.from c.args.tokens.now)) c.gate_definition.result (le_refl _) (rw (word_heads c.args.text.now k.Include (drop c.args.from c.args.tokens.now) c.sees_word.result false c.sees_word.ensures.value c.if-sees_word.false, word_heads c.args.text.now k.Qubit (drop c.args.from c.args.tokens.now) c.sees_word-2.result false c.sees_word-2.ensures.value c.if-sees_word-2.false, word_heads c.args.text.now k.Qreg (drop c.args.from c.args.tokens.now) c.sees_word-3.result false c.sees_word-3.ensures.value c.if-sees_word-3.false, word_heads c.args.text.now k.Creg (drop c.args.from c.args.tokens.now) c.sees_word-4.result false c.sees_word-4.ensures.value c.if-sees_word-4.false, sym c.begins_type.ensures ∙ c.if-begins_type.false, word_heads c.args.text.now k.Const (drop c.args.from c.args.tokens.now) c.sees_word-5.result false c.sees_word-5.ensures.value c.if-sees_word-5.false, word_heads c.args.text.now k.Output (drop c.args.from c.args.tokens.now) c.sees_word-6.result false c.sees_word-6.ensures.value c.if-sees_word-6.false, word_heads c.args.text.now k.Let (drop c.args.from c.args.tokens.now) c.sees_word-7.result false c.sees_word-7.ensures.value c.if-sees_word-7.false, word_heads c.args.text.now k.Gate (drop c.args.from c.args.tokens.now) c.sees_word-8.result true c.sees_word-8.ensures.value c.if-sees_word-8.true) refl) c.gate_definition.ensures.gives
+    behind (IsLine c.gate_definition.new.arena) c.args.tokens.now c.args.from c.args.from (read_declaration c.args.text.now (Some 64) c.args.room (deeper_block c.args.text.now c.args.room) (drop c.args.from c.args.tokens.now)) (read_gate_definition c.args.text.now (Some 64) c.args.room (drop c.args.from c.args.tokens.now)) c.gate_definition.result (le_refl _) (rw (word_heads c.args.text.now (drop c.args.from c.args.tokens.now) k.Include false (sym c.sees_word.ensures.value ∙ c.if-sees_word.false), word_heads c.args.text.now (drop c.args.from c.args.tokens.now) k.Qubit false (sym c.sees_word-2.ensures.value ∙ c.if-sees_word-2.false), word_heads c.args.text.now (drop c.args.from c.args.tokens.now) k.Qreg false (sym c.sees_word-3.ensures.value ∙ c.if-sees_word-3.false), word_heads c.args.text.now (drop c.args.from c.args.tokens.now) k.Creg false (sym c.sees_word-4.ensures.value ∙ c.if-sees_word-4.false), sym c.begins_type.ensures ∙ c.if-begins_type.false, word_heads c.args.text.now (drop c.args.from c.args.tokens.now) k.Const false (sym c.sees_word-5.ensures.value ∙ c.if-sees_word-5.false), word_heads c.args.text.now (drop c.args.from c.args.tokens.now) k.Output false (sym c.sees_word-6.ensures.value ∙ c.if-sees_word-6.false), word_heads c.args.text.now (drop c.args.from c.args.tokens.now) k.Let false (sym c.sees_word-7.ensures.value ∙ c.if-sees_word-7.false), word_heads c.args.text.now (drop c.args.from c.args.tokens.now) k.Gate true (sym c.sees_word-8.ensures.value ∙ c.if-sees_word-8.true)) refl) c.gate_definition.ensures.gives
 
 pub declaration-returns-clause-gives : goal.declaration-returns-clause-gives
 unfolding read_declaration
 declaration-returns-clause-gives t c =
-    behind (IsLine c.subroutine_definition.new.arena) c.args.tokens.now c.args.from c.args.from (read_declaration c.args.text.now (Some 64) c.args.room (deeper_block c.args.text.now c.args.room) (drop c.args.from c.args.tokens.now)) (read_subroutine_definition c.args.text.now (Some 64) c.args.room (deeper_block c.args.text.now c.args.room) (drop c.args.from c.args.tokens.now)) c.subroutine_definition.result (le_refl _) (rw (word_heads c.args.text.now k.Include (drop c.args.from c.args.tokens.now) c.sees_word.result false c.sees_word.ensures.value c.if-sees_word.false, word_heads c.args.text.now k.Qubit (drop c.args.from c.args.tokens.now) c.sees_word-2.result false c.sees_word-2.ensures.value c.if-sees_word-2.false, word_heads c.args.text.now k.Qreg (drop c.args.from c.args.tokens.now) c.sees_word-3.result false c.sees_word-3.ensures.value c.if-sees_word-3.false, word_heads c.args.text.now k.Creg (drop c.args.from c.args.tokens.now) c.sees_word-4.result false c.sees_word-4.ensures.value c.if-sees_word-4.false, sym c.begins_type.ensures ∙ c.if-begins_type.false, word_heads c.args.text.now k.Const (drop c.args.from c.args.tokens.now) c.sees_word-5.result false c.sees_word-5.ensures.value c.if-sees_word-5.false, word_heads c.args.text.now k.Output (drop c.args.from c.args.tokens.now) c.sees_word-6.result false c.sees_word-6.ensures.value c.if-sees_word-6.false, word_heads c.args.text.now k.Let (drop c.args.from c.args.tokens.now) c.sees_word-7.result false c.sees_word-7.ensures.value c.if-sees_word-7.false, word_heads c.args.text.now k.Gate (drop c.args.from c.args.tokens.now) c.sees_word-8.result false c.sees_word-8.ensures.value c.if-sees_word-8.false) refl) c.subroutine_definition.ensures.gives
+    behind (IsLine c.subroutine_definition.new.arena) c.args.tokens.now c.args.from c.args.from (read_declaration c.args.text.now (Some 64) c.args.room (deeper_block c.args.text.now c.args.room) (drop c.args.from c.args.tokens.now)) (read_subroutine_definition c.args.text.now (Some 64) c.args.room (deeper_block c.args.text.now c.args.room) (drop c.args.from c.args.tokens.now)) c.subroutine_definition.result (le_refl _) (rw (word_heads c.args.text.now (drop c.args.from c.args.tokens.now) k.Include false (sym c.sees_word.ensures.value ∙ c.if-sees_word.false), word_heads c.args.text.now (drop c.args.from c.args.tokens.now) k.Qubit false (sym c.sees_word-2.ensures.value ∙ c.if-sees_word-2.false), word_heads c.args.text.now (drop c.args.from c.args.tokens.now) k.Qreg false (sym c.sees_word-3.ensures.value ∙ c.if-sees_word-3.false), word_heads c.args.text.now (drop c.args.from c.args.tokens.now) k.Creg false (sym c.sees_word-4.ensures.value ∙ c.if-sees_word-4.false), sym c.begins_type.ensures ∙ c.if-begins_type.false, word_heads c.args.text.now (drop c.args.from c.args.tokens.now) k.Const false (sym c.sees_word-5.ensures.value ∙ c.if-sees_word-5.false), word_heads c.args.text.now (drop c.args.from c.args.tokens.now) k.Output false (sym c.sees_word-6.ensures.value ∙ c.if-sees_word-6.false), word_heads c.args.text.now (drop c.args.from c.args.tokens.now) k.Let false (sym c.sees_word-7.ensures.value ∙ c.if-sees_word-7.false), word_heads c.args.text.now (drop c.args.from c.args.tokens.now) k.Gate false (sym c.sees_word-8.ensures.value ∙ c.if-sees_word-8.false)) refl) c.subroutine_definition.ensures.gives
 
 pub subroutine_definition-returns-in_err-at-clause-gives : goal.subroutine_definition-returns-in_err-at-clause-gives
 unfolding read_subroutine_definition
 subroutine_definition-returns-in_err-at-clause-gives t c =
-    leave (IsLine c.args.arena.now) c.args.tokens.now c.args.from c.args.from (read_keyword c.args.text.now k.Def (drop c.args.from c.args.tokens.now)) _ c.in_err-at.field-0.0 c.from_residual.result c.from_residual.ensures.1 (λ x h. rw (h) refl) (le_refl _) c.in_err-at.ensures.gives
+    handed _ _ _ _ c.from_residual.ensures c.in_err-at.ensures.gives (le_refl _) (λ x h. rw (h) refl)
 
 pub subroutine_definition-returns-in_err-name-clause-gives : goal.subroutine_definition-returns-in_err-name-clause-gives
 unfolding read_subroutine_definition
 subroutine_definition-returns-in_err-name-clause-gives t c =
     let w = c.in_ok-at.ensures.gives in
-    leave (IsLine c.declared.new.arena) c.args.tokens.now c.args.from c.in_ok-at.next (read_name c.args.text.now (drop c.in_ok-at.next c.args.tokens.now)) _ c.in_err-name.field-0.0 c.from_residual-in_err-name.result c.from_residual-in_err-name.ensures.1 (λ x h. rw (w.4, h) refl) w.2 c.in_err-name.ensures.gives
+    handed _ _ _ _ c.from_residual-in_err-name.ensures c.in_err-name.ensures.gives w.2 (λ x h. rw (w.4, h) refl)
 
 pub subroutine_definition-returns-in_err-params-clause-gives : goal.subroutine_definition-returns-in_err-params-clause-gives
 unfolding read_subroutine_definition
 subroutine_definition-returns-in_err-params-clause-gives t c =
     let w = c.in_ok-at.ensures.gives in
     let n = c.in_ok-name.ensures.gives in
-    leave (IsLine c.parameters.new.arena) c.args.tokens.now c.args.from c.in_ok-name.next (read_parameters c.args.text.now (Some 64) c.args.room (drop c.in_ok-name.next c.args.tokens.now)) _ c.in_err-params.field-0.0 c.from_residual-in_err-params.result c.from_residual-in_err-params.ensures.1 (λ x h. rw (w.4, n.4, h) refl) (omega (arith, w.2, n.2)) c.in_err-params.ensures.gives
+    handed _ _ _ _ c.from_residual-in_err-params.ensures c.in_err-params.ensures.gives (omega (arith, w.2, n.2)) (λ x h. rw (w.4, n.4, h) refl)
 
 pub subroutine_definition-returns-in_err-result-clause-gives : goal.subroutine_definition-returns-in_err-result-clause-gives
 unfolding read_subroutine_definition
@@ -313,7 +314,7 @@ subroutine_definition-returns-in_err-result-clause-gives t c =
     let w = c.in_ok-at.ensures.gives in
     let n = c.in_ok-name.ensures.gives in
     let ps = c.in_ok-params.ensures.gives in
-    leave (IsLine c.result.new.arena) c.args.tokens.now c.args.from c.in_ok-params.next (read_result c.args.text.now (Some 64) c.args.room (drop c.in_ok-params.next c.args.tokens.now)) _ c.in_err-result.field-0.0 c.from_residual-in_err-result.result c.from_residual-in_err-result.ensures.1 (λ x h. rw (w.4, n.4, ps.4, h) refl) (omega (arith, w.2, n.2, ps.2)) c.in_err-result.ensures.gives
+    handed _ _ _ _ c.from_residual-in_err-result.ensures c.in_err-result.ensures.gives (omega (arith, w.2, n.2, ps.2)) (λ x h. rw (w.4, n.4, ps.4, h) refl)
 
 pub subroutine_definition-returns-in_err-body-clause-gives : goal.subroutine_definition-returns-in_err-body-clause-gives
 unfolding read_subroutine_definition
@@ -322,7 +323,7 @@ subroutine_definition-returns-in_err-body-clause-gives t c =
     let n = c.in_ok-name.ensures.gives in
     let ps = c.in_ok-params.ensures.gives in
     let r = c.in_ok-result.ensures.gives in
-    leave (IsLine c.block.new.arena) c.args.tokens.now c.args.from c.in_ok-result.next (deeper_block c.args.text.now c.args.room (drop c.in_ok-result.next c.args.tokens.now)) _ c.in_err-body.field-0.0 c.from_residual-in_err-body.result c.from_residual-in_err-body.ensures.1 (λ x h. rw (w.4, n.4, ps.4, r.4, h) refl) (omega (arith, w.2, n.2, ps.2, r.2)) c.in_err-body.ensures.gives
+    handed _ _ _ _ c.from_residual-in_err-body.ensures c.in_err-body.ensures.gives (omega (arith, w.2, n.2, ps.2, r.2)) (λ x h. rw (w.4, n.4, ps.4, r.4, h) refl)
 
 pub subroutine_definition-returns-clause-gives : goal.subroutine_definition-returns-clause-gives
 unfolding read_subroutine_definition
@@ -346,7 +347,7 @@ pub unlisted-returns-in_err-found-clause-gives : goal.unlisted-returns-in_err-fo
 unfolding read_stmt_at
 unlisted-returns-in_err-found-clause-gives t c =
     let opened = stmt_open c.args.text.now c.args.room (drop c.args.from c.args.tokens.now) in
-    leave (IsOpenLine c.declaration.new.arena) c.args.tokens.now c.args.from c.args.from (read_declaration c.args.text.now (Some 64) c.args.room (deeper_block c.args.text.now c.args.room) (drop c.args.from c.args.tokens.now)) _ c.in_err-found.field-0.0 c.from_residual.result c.from_residual.ensures.1 (λ x h. opened ∙ rw (sym c.begins_declaration.ensures ∙ c.if-begins_declaration.true, h) refl) (le_refl _) c.in_err-found.ensures.gives
+    handed _ _ _ _ c.from_residual.ensures c.in_err-found.ensures.gives (le_refl _) (λ x h. opened ∙ rw (sym c.begins_declaration.ensures ∙ c.if-begins_declaration.true, h) refl)
 
 pub unlisted-returns-then-begins_declaration-clause-gives : goal.unlisted-returns-then-begins_declaration-clause-gives
 unfolding read_stmt_at
@@ -359,7 +360,7 @@ pub unlisted-returns-in_err-found-2-clause-gives : goal.unlisted-returns-in_err-
 unfolding read_stmt_at
 unlisted-returns-in_err-found-2-clause-gives t c =
     let opened = stmt_open c.args.text.now c.args.room (drop c.args.from c.args.tokens.now) in
-    leave (IsOpenLine c.action.new.arena) c.args.tokens.now c.args.from c.args.from (read_action c.args.text.now (Some 64) c.args.room (drop c.args.from c.args.tokens.now)) _ c.in_err-found-2.field-0.0 c.from_residual-in_err-found-2.result c.from_residual-in_err-found-2.ensures.1 (λ x h. opened ∙ rw (sym c.begins_declaration.ensures ∙ c.if-begins_declaration.false, sym c.begins_action.ensures ∙ c.if-begins_action.true, h) refl) (le_refl _) c.in_err-found-2.ensures.gives
+    handed _ _ _ _ c.from_residual-in_err-found-2.ensures c.in_err-found-2.ensures.gives (le_refl _) (λ x h. opened ∙ rw (sym c.begins_declaration.ensures ∙ c.if-begins_declaration.false, sym c.begins_action.ensures ∙ c.if-begins_action.true, h) refl)
 
 pub unlisted-returns-then-begins_action-clause-gives : goal.unlisted-returns-then-begins_action-clause-gives
 unfolding read_stmt_at
@@ -389,7 +390,7 @@ stmt-returns-clause-sound t c =
 pub stmts-stmts-init : goal.stmts-stmts-init
 stmts-stmts-init t c =
     record {
-      repeating = repeating_start c.args.text.now stmt_kinds (read_stmt c.args.text.now (Some 64) c.args.room) c.args.tokens.now c.args.from (λ id s. IsStatement c.args.arena.now id s.0) c.new-found.result.items c.new-found.ensures.items c.requires.within;
+      repeating = repeating_start c.args.text.now stmt_kinds (read_stmt c.args.text.now (Some 64) c.args.room) c.args.tokens.now c.args.from (Each (λ id s. IsStatement c.args.arena.now id s.0)) c.new-found.result.items (each_none _ _ c.new-found.ensures.items) c.requires.within;
       count = omega (arith, ap length c.new-found.ensures.items);
       grown = grown_same c.args.arena.now;
       few = c.requires.few;
@@ -399,7 +400,7 @@ stmts-stmts-init t c =
 pub stmts-returns-in_err-id-clause-gives : goal.stmts-returns-in_err-id-clause-gives
 stmts-returns-in_err-id-clause-gives t c =
     let g = c.stmts.invariant.repeating in
-    leave (λ (v : Vec StmtId Global) (os : List Opened). IsStatements c.stmt.new.arena v.items (opened_statements os)) c.args.tokens.now c.args.from c.stmts.at (read_stmt c.args.text.now (Some 64) c.args.room (drop c.stmts.at c.args.tokens.now)) _ c.in_err-id.field-0.0 c.from_residual.result c.from_residual.ensures.1 (λ x h. repeating_err c.args.text.now stmt_kinds (read_stmt c.args.text.now (Some 64) c.args.room) c.args.tokens.now c.args.from g (sym c.begins_stmt.ensures ∙ c.stmts-test.true) x h) g.from_at c.in_err-id.ensures.gives
+    handed _ _ _ _ c.from_residual.ensures c.in_err-id.ensures.gives g.from_at (λ x h. repeating_err c.args.text.now stmt_kinds (read_stmt c.args.text.now (Some 64) c.args.room) c.args.tokens.now c.args.from g (sym c.begins_stmt.ensures ∙ c.stmts-test.true) x h)
 
 pub stmts-stmts-smaller : goal.stmts-stmts-smaller
 stmts-stmts-smaller t c =
@@ -418,7 +419,7 @@ stmts-stmts-preserved t c =
     let kept = each_on (λ (id : StmtId) (s : Opened). IsStatement c.stmts.arena id s.0) (λ (id : StmtId) (s : Opened). IsStatement c.stmt.new.arena id s.0) (λ id s. statement_later c.stmts.invariant.sound c.in_ok-id.ensures.grown id s.0) c.stmts.found.items g.acc g.sees in
     let seen = subst (λ l. Each (λ (id : StmtId) (s : Opened). IsStatement c.stmt.new.arena id s.0) l (g.acc ++ r.0 ∷ [])) (sym push) (each_push (λ (id : StmtId) (s : Opened). IsStatement c.stmt.new.arena id s.0) c.stmts.found.items g.acc c.in_ok-id.id r.0 kept r.1.0) in
     record {
-      repeating = repeating_more c.args.text.now stmt_kinds (read_stmt c.args.text.now (Some 64) c.args.room) c.args.tokens.now c.args.from g (sym c.begins_stmt.ensures ∙ c.stmts-test.true) (λ id s. IsStatement c.stmt.new.arena id s.0) c.in_ok-id.next r.0 c.push.new.self.items seen on r.3 r.4;
+      repeating = repeating_more c.args.text.now stmt_kinds (read_stmt c.args.text.now (Some 64) c.args.room) c.args.tokens.now c.args.from g (sym c.begins_stmt.ensures ∙ c.stmts-test.true) (Each (λ id s. IsStatement c.stmt.new.arena id s.0)) c.in_ok-id.next r.0 c.push.new.self.items seen on r.3 r.4;
       count = omega (arith, ap length push, length-append c.stmts.found.items (c.in_ok-id.id ∷ []), on, c.stmts.invariant.count);
       grown = grown_on c.stmts.invariant.grown c.in_ok-id.ensures.grown;
       few = c.in_ok-id.ensures.few;

@@ -1,7 +1,7 @@
 use Rattle.std.proofs.Common.{◌+◌, ◌-◌, ◌*◌, ◌≤◌, Some, length, drop}
 use Rattle.qasm_grammar.specs.Reader.{read_stmt, read_all_stmts, stmt_kinds}
-use Rattle.qasm_stmt.specs.Seen.{Sound, Few, Grown, IsStatement}
-use Rattle.qasm_stmt.proofs.Loops.{Repeating}
+use Rattle.qasm_stmt.specs.Seen.{Each, Sound, Few, Grown, IsStatement}
+use Rattle.qasm_expr.proofs.Loops.{Repeating}
 use Rattle.qasm_stmt.proofs.statements.+stmt.Given as goal
 
 abbrev pub decreases-stmts : goal.decreases-stmts
@@ -39,7 +39,7 @@ decreases-block l = l.room * 20 + 5
 
 abbrev pub invariant-stmts-stmts : goal.invariant-stmts-stmts
 invariant-stmts-stmts l = record {
-  repeating : Repeating l.text stmt_kinds (read_stmt l.text (Some 64) l.room) l.tokens (λ id s. IsStatement l.arena id s.0) l.from (read_all_stmts l.text (Some 64) l.room (drop l.from l.tokens)) l.found.items l.at;
+  repeating : Repeating l.text stmt_kinds (read_stmt l.text (Some 64) l.room) l.tokens (Each (λ id s. IsStatement l.arena id s.0)) l.from (read_all_stmts l.text (Some 64) l.room (drop l.from l.tokens)) l.found.items l.at;
   count : length l.found.items + l.from ≤ l.at;
   grown : Grown l.fn.arena l.arena;
   few : Few l.arena l.at;

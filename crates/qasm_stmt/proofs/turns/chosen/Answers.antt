@@ -6,7 +6,7 @@ use Rattle.qasm_expr.specs.Reader.{read_list}
 use Rattle.qasm_grammar.specs.Parts.{over_set}
 use Rattle.qasm_grammar.specs.Reader.{read_chosen}
 use Rattle.qasm_stmt.specs.Seen.{tree}
-use Rattle.qasm_stmt.proofs.Handing.{handed, handed_mark}
+use Rattle.qasm_expr.proofs.Exits.{handed, handed_mark}
 use Rattle.qasm_stmt.proofs.Showing.{inner_at, trees_each, fits_each}
 use Rattle.qasm_stmt.proofs.turns.chosen.Goals as goal
 

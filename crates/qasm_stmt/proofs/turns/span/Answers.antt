@@ -6,7 +6,7 @@ use Rattle.qasm_expr.proofs.Places.{heads_sign, passes_yes}
 use Rattle.qasm_grammar.specs.Parts.{over_range}
 use Rattle.qasm_grammar.specs.Reader.{read_span, read_behind_second}
 use Rattle.qasm_stmt.proofs.Growing.{grown_on, tree_later}
-use Rattle.qasm_stmt.proofs.Handing.{handed, handed_mark}
+use Rattle.qasm_expr.proofs.Exits.{handed, handed_mark}
 use Rattle.qasm_stmt.proofs.Showing.{inner_at}
 use Rattle.qasm_stmt.proofs.turns.span.Goals as goal
 

@@ -1,4 +1,4 @@
--- Loops over equal parts, and over lists with commas. `R` says which value an item that was found stands for.
+-- Loops over equal parts, and over lists with commas. `S` says which values the items that were found stand for.
 use Rattle.std.proofs.Common.{◌≡◌, inl, inr, ℕ, zero, suc, ◌+◌, ◌≤◌, ◌<◌, Bool, true, false, List, [], ◌∷◌, ◌++◌, length, drop, Option, Some, None, Ok, Err, refl, sym, ap, subst, ◌∙◌, le_refl, length-drop, append_assoc, append-nil, arith, ◌||◌}
 use Rattle.std.specs.Prelude.{◌==◌}
 use Rattle.std.proofs.lemmas.Bool.{eqb-true}
@@ -8,11 +8,13 @@ use Rattle.grammar_parts.specs.Reading.{Outcome, Refusal, Reader, and_then, head
 use Rattle.grammar_parts.specs.Kinds.{items, take_entries, take_some_list}
 use Rattle.qasm_expr.specs.TokenKinds.{kind}
 use Rattle.qasm_expr.specs.Grammar.{comma}
-use Rattle.qasm_expr.specs.Reader.{begins, read_sign}
+use Rattle.qasm_expr.specs.Reader.{begins, read_sign, read_listed}
 use Rattle.qasm_expr.specs.Seen.{head_kind}
 use Rattle.qasm_expr.proofs.Places.{Split, split_at, heads_sign, sign_yes}
-use Rattle.qasm_expr.proofs.Lists.{some_fuel}
-use Rattle.qasm_stmt.specs.Seen.{Each, read_listed}
+
+some_fuel : (n : ℕ) → 0 < n → (m : ℕ) × (n ≡ suc m)
+some_fuel zero lt = absurd (omega arith)
+some_fuel (suc m) lt = (m, refl)
 
 heads_filled : (text set : List ℕ) (ts : List Token) → heads (begins text set) ts ≡ true → 0 < length ts
 heads_filled text set [] e = absurd (cc)
@@ -23,10 +25,10 @@ heads_filled text set (x ∷ ts) e = omega arith
 abbrev pub rest_of : {A : Type 0} → List ℕ → List ℕ → Reader Token A → ℕ → List A → Reader Token (List A)
 rest_of text set item n acc ts = and_then (take_many (λ s. begins text set) (λ s. item) (λ s a. s) n nothing_kept ts) (λ more rest. Ok (acc ++ more, rest))
 
-pub record Repeating {X A : Type 0} (text set : List ℕ) (item : Reader Token A) (tokens : List Token) (R : X → A → Type 0) (from : ℕ) (out : Outcome Token (List A)) (found : List X) (at' : ℕ) : Type 0 where
+pub record Repeating {X A : Type 0} (text set : List ℕ) (item : Reader Token A) (tokens : List Token) (S : List X → List A → Type 0) (from : ℕ) (out : Outcome Token (List A)) (found : List X) (at' : ℕ) : Type 0 where
   pub acc : List A
   pub fuel : ℕ
-  pub sees : Each R found acc
+  pub sees : S found acc
   pub from_at : from ≤ at'
   pub at_end : at' ≤ length tokens
   pub enough : length (drop at' tokens) ≤ fuel
@@ -49,14 +51,14 @@ module _ {A : Type 0} (text set : List ℕ) (item : Reader Token A) where
 
 module _ {X A : Type 0} (text set : List ℕ) (item : Reader Token A) where
   module _ (tokens : List Token) (from : ℕ) where
-    pub repeating_start : (R : X → A → Type 0) (found : List X) → found ≡ [] → from ≤ length tokens → Repeating text set item tokens R from (take_repeated (begins text set) item (drop from tokens)) found from
-    repeating_start R found e le = record { acc = []; fuel = length (drop from tokens); sees = subst (λ l. Each R l []) (sym e) tt; from_at = le_refl _; at_end = le; enough = le_refl _; same = sym (nil_front (take_repeated (begins text set) item (drop from tokens))) }
+    pub repeating_start : (S : List X → List A → Type 0) (found : List X) → S found [] → from ≤ length tokens → Repeating text set item tokens S from (take_repeated (begins text set) item (drop from tokens)) found from
+    repeating_start S found e le = record { acc = []; fuel = length (drop from tokens); sees = e; from_at = le_refl _; at_end = le; enough = le_refl _; same = sym (nil_front (take_repeated (begins text set) item (drop from tokens))) }
       where
         nil_front : (o : Outcome Token (List A)) → and_then o (λ more rest. Ok ([] ++ more, rest)) ≡ o
         nil_front (Ok r) = refl
         nil_front (Err x) = refl
 
-    module _ {R : X → A → Type 0} {out : Outcome Token (List A)} {found : List X} {at' : ℕ} (g : Repeating text set item tokens R from out found at') where
+    module _ {S : List X → List A → Type 0} {out : Outcome Token (List A)} {found : List X} {at' : ℕ} (g : Repeating text set item tokens S from out found at') where
       pub repeating_stop : heads (begins text set) (drop at' tokens) ≡ false → out ≡ Ok (g.acc, drop at' tokens)
       repeating_stop h = g.same ∙ rest_none text set item g.fuel g.acc (drop at' tokens) h
 
@@ -68,9 +70,9 @@ module _ {X A : Type 0} (text set : List ℕ) (item : Reader Token A) where
         unfolding fuel_here
         repeating_err x k = g.same ∙ ap (λ n. rest_of text set item n g.acc (drop at' tokens)) fuel_here.1 ∙ rest_err text set item fuel_here.0 g.acc (drop at' tokens) x h k
 
-        pub repeating_more : (R' : X → A → Type 0) (next : ℕ) (b : A) (found' : List X) → Each R' found' (g.acc ++ b ∷ []) → at' < next → next ≤ length tokens → item (drop at' tokens) ≡ Ok (b, drop next tokens) → Repeating text set item tokens R' from out found' next
+        pub repeating_more : (S' : List X → List A → Type 0) (next : ℕ) (b : A) (found' : List X) → S' found' (g.acc ++ b ∷ []) → at' < next → next ≤ length tokens → item (drop at' tokens) ≡ Ok (b, drop next tokens) → Repeating text set item tokens S' from out found' next
         unfolding fuel_here
-        repeating_more R' next b found' s lt le k =
+        repeating_more S' next b found' s lt le k =
             let enough : length (drop at' tokens) ≤ g.fuel = g.enough in let le0 : from ≤ at' = g.from_at in let is_fuel : g.fuel ≡ suc fuel_here.0 = fuel_here.1 in
             record {
               acc = g.acc ++ b ∷ [];
@@ -97,10 +99,10 @@ abbrev pub listed : {A : Type 0} → List ℕ → List ℕ → Reader Token A �
 listed text set item true n acc ts = take_some_list (kind text) comma set item ts
 listed text set item false n acc ts = onward text set item n acc ts
 
-pub record Listing {X A : Type 0} (text set : List ℕ) (item : Reader Token A) (tokens : List Token) (R : X → A → Type 0) (from : ℕ) (out : Outcome Token (List A)) (first : Bool) (found : List X) (at' : ℕ) : Type 0 where
+pub record Listing {X A : Type 0} (text set : List ℕ) (item : Reader Token A) (tokens : List Token) (S : List X → List A → Type 0) (from : ℕ) (out : Outcome Token (List A)) (first : Bool) (found : List X) (at' : ℕ) : Type 0 where
   pub acc : List A
   pub fuel : ℕ
-  pub sees : Each R found acc
+  pub sees : S found acc
   pub alone : first ≡ true → acc ≡ []
   pub from_at : from ≤ at'
   pub at_end : at' ≤ length tokens
@@ -135,11 +137,11 @@ module _ {A : Type 0} (text set : List ℕ) (item : Reader Token A) where
 
 module _ {X A : Type 0} (text set : List ℕ) (item : Reader Token A) where
   module _ (tokens : List Token) (from : ℕ) where
-    pub listing_start : (R : X → A → Type 0) (filled : Bool) (found : List X) → found ≡ [] → from ≤ length tokens → Listing text set item tokens R from (read_listed text set filled item (drop from tokens)) filled found from
-    listing_start R true found e le = record { acc = []; fuel = length (drop from tokens); sees = subst (λ l. Each R l []) (sym e) tt; alone = λ h. refl; from_at = le_refl _; at_end = le; enough = le_refl _; same = refl }
-    listing_start R false found e le = record { acc = []; fuel = length (drop from tokens); sees = subst (λ l. Each R l []) (sym e) tt; alone = λ h. refl; from_at = le_refl _; at_end = le; enough = le_refl _; same = refl }
+    pub listing_start : (S : List X → List A → Type 0) (filled : Bool) (found : List X) → S found [] → from ≤ length tokens → Listing text set item tokens S from (read_listed text set filled item (drop from tokens)) filled found from
+    listing_start S true found e le = record { acc = []; fuel = length (drop from tokens); sees = e; alone = λ h. refl; from_at = le_refl _; at_end = le; enough = le_refl _; same = refl }
+    listing_start S false found e le = record { acc = []; fuel = length (drop from tokens); sees = e; alone = λ h. refl; from_at = le_refl _; at_end = le; enough = le_refl _; same = refl }
 
-    module _ {R : X → A → Type 0} {out : Outcome Token (List A)} {first : Bool} {found : List X} {at' : ℕ} (g : Listing text set item tokens R from out first found at') where
+    module _ {S : List X → List A → Type 0} {out : Outcome Token (List A)} {first : Bool} {found : List X} {at' : ℕ} (g : Listing text set item tokens S from out first found at') where
       pub listing_stop : (first || heads (begins text set) (drop at' tokens)) ≡ false → out ≡ Ok (g.acc, drop at' tokens)
       listing_stop h = by_first first refl
         where
@@ -190,14 +192,14 @@ module _ {X A : Type 0} (text set : List ℕ) (item : Reader Token A) where
         unfolding behind
         listing_end next t lt le k w = let b = behind next t lt le k in b.same ∙ behind_none text set item b.left (g.acc ++ t ∷ []) (drop next tokens) (heads_sign text comma (drop next tokens) false (omega arith) w)
 
-        pub listing_more : (R' : X → A → Type 0) (next : ℕ) (t : A) (found' : List X) → Each R' found' (g.acc ++ t ∷ []) → at' < next → next ≤ length tokens → item (drop at' tokens) ≡ Ok (t, drop next tokens) → (head_kind text (drop next tokens) == comma) ≡ true → Listing text set item tokens R' from out false found' (next + 1)
+        pub listing_more : (S' : List X → List A → Type 0) (next : ℕ) (t : A) (found' : List X) → S' found' (g.acc ++ t ∷ []) → at' < next → next ≤ length tokens → item (drop at' tokens) ≡ Ok (t, drop next tokens) → (head_kind text (drop next tokens) == comma) ≡ true → Listing text set item tokens S' from out false found' (next + 1)
         unfolding behind
-        listing_more R' next t found' s lt le k w = by_split (split_at tokens next le)
+        listing_more S' next t found' s lt le k w = by_split (split_at tokens next le)
           where
             b : Behind next t
             b = behind next t lt le k
 
-            by_split : Split tokens next → Listing text set item tokens R' from out false found' (next + 1)
+            by_split : Split tokens next → Listing text set item tokens S' from out false found' (next + 1)
             by_split (inl z) = let zero_kind : 0 ≡ comma = eqb-true 0 comma (sym (ap (λ l. head_kind text l == comma) z.0) ∙ w) in absurd (omega arith)
             by_split (inr z) =
                 let le0 : from ≤ at' = g.from_at in
