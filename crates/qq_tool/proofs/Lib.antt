@@ -11,4 +11,9 @@ mod Runs
 mod Shapes
 mod Telling
 mod Texts
+mod ThinApart
+mod ThinPieces
+mod ThinPrograms
 mod Worked
+mod Written
+mod WrittenLines

@@ -7,7 +7,7 @@ ghost use Rattle.qir_module.specs.Module.{Module};
 ghost use Rattle.qq_base.specs.declared.refusal.Refusal.{Refusal};
 ghost use Rattle.qq_tool.specs.Compiled.{Implements};
 ghost use Rattle.qq_tool.specs.Laws.{EndedRunsStay, UnfinishedRunsGoOn};
-ghost use Rattle.qq_tool.specs.Refused.{IsRefused};
+ghost use Rattle.qq_tool.specs.Refused.{IsRefused, IsProgramText};
 ghost use Rattle.qq_tool.specs.ThinRun.{source_run};
 ghost use Rattle.qq_tool.specs.Thin.{Thin, Spells, IsThinText};
 
@@ -16,7 +16,12 @@ pub fn one_program()
     ensures { (bytes : List ℕ) (p q : Thin) → Spells bytes p → Spells bytes q → p ≡ q }
 {}
 
-/// A thin text is never refused: it is short enough, and of the form that is built.
+/// A thin text breaks no rule of tokens and of programs.
+pub fn thin_texts_are_programs()
+    ensures { (bytes : List ℕ) → IsThinText bytes → IsProgramText bytes }
+{}
+
+/// A thin text is never refused: it is short enough, breaks no rule, and is of the form that is built.
 pub fn thin_texts_are_accepted()
     ensures { (bytes : List ℕ) (refusal : Refusal) → IsThinText bytes → ¬ IsRefused bytes refusal }
 {}
