@@ -9,6 +9,7 @@ use Rattle.qq_tool.specs.declared.thin.ThinLine.{ThinLine}
 use Rattle.qq_tool.specs.declared.thin.ThinLine.TheVariants.{Hadamard, Not, ControlledNot, Measure}
 use Rattle.qq_tool.specs.Thin.{Thin, IsThin, IsWithin, IsThinText, line_text, header_text, thin_text}
 use Rattle.qq_tool.specs.Refused.{IsRefused}
+use Rattle.qq_tool.proofs.ThinPrograms.{programs_of_thin, programs_break_none}
 
 short : (n : ℕ) → n < 10000 → length (decimal n) ≤ 4
 short n small = length-decimal-le 4 n (omega arith) (omega arith) (omega arith)
@@ -41,4 +42,5 @@ length_thin p is =
 
 pub not_refused : (bytes : List ℕ) (refusal : Refusal) → IsThinText bytes → ¬ IsRefused bytes refusal
 not_refused bytes refusal (p, spells) (inl too_long) = absurd (omega (arith, ap length spells.text, length_thin p spells.thin, too_long.0))
-not_refused bytes refusal (p, spells) (inr no_text) = no_text.1 (p, spells)
+not_refused bytes refusal thin (inr (short, inl broken)) = programs_break_none bytes refusal (programs_of_thin bytes thin) broken
+not_refused bytes refusal thin (inr (short, inr other)) = other.1 thin

@@ -31,12 +31,12 @@ BreaksRule bytes refusal =
     Tokens bytes (Err refusal)
     ⊎ ((tokens : List Token) × Tokens bytes (Ok tokens) × AreRefused bytes (Some 64) 64 tokens refusal)
 
--- The first rule that a source text breaks: its length, the rules of tokens and those of programs; and where
--- it breaks none of these, that it is of a form that is not built. A thin text is not refused.
+-- The first rule that a source text breaks: its length, the rules of tokens and those of programs. A text that
+-- breaks none of these is refused as not built exactly where it is no thin text.
 abbrev pub IsRefused : List ℕ → Refusal → Type 0
 IsRefused bytes refusal =
     ((source_limit < length bytes) × (refusal ≡ at_start InputTooLong))
-    ⊎ ((length bytes ≤ source_limit) × ¬ IsThinText bytes × (BreaksRule bytes refusal ⊎ (IsProgramText bytes × (refusal ≡ at_start NotBuilt))))
+    ⊎ ((length bytes ≤ source_limit) × (BreaksRule bytes refusal ⊎ (IsProgramText bytes × ¬ IsThinText bytes × (refusal ≡ at_start NotBuilt))))
 
 -- a number below 100 in two digits
 abbrev pub two_digits : ℕ → List ℕ

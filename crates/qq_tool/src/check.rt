@@ -29,11 +29,11 @@ pub fn checked(alloc: Global, source: &[u8]) -> Result<ThinProgram, Fault>
     ensures ok { IfOk result (λ p. Spells source.now p) }
     ensures refused { (refusal : Refusal) → result ≡ Err (Fault.Refused refusal) → IsRefused source.now refusal }
 {
-    if let Some(program) = read_thin(alloc, source)? {
-        return Ok(program);
-    }
     parsed(alloc, source)?;
-    Err(Fault::Refused(at_start(Rule::NotBuilt)))
+    match read_thin(alloc, source)? {
+        Some(program) => Ok(program),
+        None => Err(Fault::Refused(at_start(Rule::NotBuilt))),
+    }
 }
 
 /// The tree of a source text, or the refusal by the rules of its tokens and of programs.
