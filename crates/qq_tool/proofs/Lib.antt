@@ -7,6 +7,7 @@ mod Orders
 mod Pieces
 mod Prefixes
 mod Programs
+mod Refusals
 mod Runs
 mod Shapes
 mod Telling

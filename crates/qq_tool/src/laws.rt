@@ -21,6 +21,11 @@ pub fn thin_texts_are_programs()
     ensures { (bytes : List ℕ) → IsThinText bytes → IsProgramText bytes }
 {}
 
+/// A text is refused by one rule and at one place at most.
+pub fn refusals_are_one()
+    ensures { (bytes : List ℕ) (a b : Refusal) → IsRefused bytes a → IsRefused bytes b → a ≡ b }
+{}
+
 /// A thin text is never refused: it is short enough, breaks no rule, and is of the form that is built.
 pub fn thin_texts_are_accepted()
     ensures { (bytes : List ℕ) (refusal : Refusal) → IsThinText bytes → ¬ IsRefused bytes refusal }
