@@ -62,13 +62,42 @@ fn tree(alloc: Global, text: &str) -> Result<String, AllocError> {
     }
 }
 
+/// A part of a row that ends in a piece: what stands in front, how many times the piece stands, and the piece.
+fn repeated<'x>(part: &'x str) -> Option<(&'x str, usize, &'x str)> {
+    let (before, rest) = part.split_once('«')?;
+    let (count, piece) = rest.split_once(' ')?;
+    match count.parse::<usize>() {
+        Ok(count) => Some((before, count, piece)),
+        Err(_) => None,
+    }
+}
+
+/// The text that a row stands for: `\n` for the end of a line, and `«3 x»` for `x` three times.
+fn spelled(alloc: Global, row: &str) -> Result<String, AllocError> {
+    let row = row.replace(alloc, "\\n", "\n")?;
+    let mut text = String::new(alloc);
+    for part in row.as_str().split('»') {
+        match repeated(part) {
+            Some((before, count, piece)) => {
+                text.push_str(before)?;
+                for _ in 0..count {
+                    text.push_str(piece)?;
+                }
+            }
+            None => text.push_str(part)?,
+        }
+    }
+    Ok(text)
+}
+
 /// The first row of a table that is read otherwise, or nothing. A row is a text and what `tree` says of it.
 fn other_row(alloc: Global, table: &str) -> Result<String, AllocError> {
     for row in table.lines() {
         let Some((text, want)) = row.split_once(" => ") else {
             return format!(in alloc; "no row: {row}");
         };
-        let found = tree(alloc, text)?;
+        let text = spelled(alloc, text)?;
+        let found = tree(alloc, text.as_str())?;
         if found.as_str() != want {
             return format!(in alloc; "{row}, but {found}");
         }
@@ -86,15 +115,26 @@ fn answer(alloc: Global, text: &str, level: u32) -> Result<String, AllocError> {
     }
 }
 
-/// A text of pieces, each so many times.
-fn built(alloc: Global, pieces: &[(&str, usize)]) -> Result<String, AllocError> {
-    let mut text = String::new(alloc);
-    for (piece, count) in pieces {
-        for _ in 0..*count {
-            text.push_str(*piece)?;
+/// The first row of a table that is answered otherwise, or nothing. A row is a text, the level at which its
+/// expression begins, and the answer.
+fn other_answer(alloc: Global, table: &str) -> Result<String, AllocError> {
+    for row in table.lines() {
+        let Some((text, rest)) = row.split_once(" => ") else {
+            return format!(in alloc; "no row: {row}");
+        };
+        let Some((level, want)) = rest.split_once(" => ") else {
+            return format!(in alloc; "no row: {row}");
+        };
+        let Ok(level) = level.parse::<u32>() else {
+            return format!(in alloc; "no level: {row}");
+        };
+        let text = spelled(alloc, text)?;
+        let found = answer(alloc, text.as_str(), level)?;
+        if found.as_str() != want {
+            return format!(in alloc; "{row}, but {found}");
         }
     }
-    Ok(text)
+    Ok(String::new(alloc))
 }
 
 /// The names in their order.

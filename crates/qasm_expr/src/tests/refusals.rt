@@ -1,6 +1,6 @@
 //! Refusals with their rules and places: Q9 is the rule of what does not go on, Q11 of what is left out.
 
-use super::{other_row, tree};
+use super::other_row;
 use std::test::Fail;
 
 /// No operand stands where one has to.
@@ -191,21 +191,21 @@ fn refuses_what_is_left_out(rt: HostRuntime) -> Result<(), Fail> {
     Ok(())
 }
 
+/// Texts of several lines: `\n` stands for the end of one.
+const LINES: &str = "\
+a\\n+ b // c\\n* 2 => (+ a@1:1 (* b@2:3 2@3:3)@2:3)@1:1 5
+/* c */\\n => Q9 2:1
+1 +\\n => Q9 2:1
+1 +\\n  * 2 => Q9 2:3
+(1\\n\\n => Q9 3:1
+f(1,\\n/* c */  => Q9 2:9
+angle\\n[\\n2\\n] => Q9 4:2
+a[\r\\n1:\r\\n: => Q9 3:2
+(1\\n#) => Q11 2:1
+";
+
 #[test]
 fn counts_lines(rt: HostRuntime) -> Result<(), Fail> {
-    let table = [
-        ("a\n+ b // c\n* 2", "(+ a@1:1 (* b@2:3 2@3:3)@2:3)@1:1 5"),
-        ("/* c */\n", "Q9 2:1"),
-        ("1 +\n", "Q9 2:1"),
-        ("1 +\n  * 2", "Q9 2:3"),
-        ("(1\n\n", "Q9 3:1"),
-        ("f(1,\n/* c */ ", "Q9 2:9"),
-        ("angle\n[\n2\n]", "Q9 4:2"),
-        ("a[\r\n1:\r\n:", "Q9 3:2"),
-        ("(1\n#)", "Q11 2:1"),
-    ];
-    for (text, want) in table {
-        assert_eq!(rt; tree(rt.alloc(), text)?.as_str(), want, "{text}");
-    }
+    assert_eq!(rt; other_row(rt.alloc(), LINES)?.as_str(), "");
     Ok(())
 }
