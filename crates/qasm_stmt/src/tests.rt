@@ -64,15 +64,70 @@ fn answer(alloc: Global, text: &str) -> Result<String, AllocError> {
     }
 }
 
-/// A text of pieces, each so many times.
-fn built(alloc: Global, pieces: &[(&str, usize)]) -> Result<String, AllocError> {
+/// A part of a row that ends in a piece: what stands in front, how many times the piece stands, and the piece.
+fn repeated<'x>(part: &'x str) -> Option<(&'x str, usize, &'x str)> {
+    let (before, rest) = part.split_once('«')?;
+    let (count, piece) = rest.split_once(' ')?;
+    match count.parse::<usize>() {
+        Ok(count) => Some((before, count, piece)),
+        Err(_) => None,
+    }
+}
+
+/// The text that a row stands for: `\n` for the end of a line, and `«3 x»` for `x` three times.
+fn spelled(alloc: Global, row: &str) -> Result<String, AllocError> {
+    let row = row.replace(alloc, "\\n", "\n")?;
     let mut text = String::new(alloc);
-    for (piece, count) in pieces {
-        for _ in 0..*count {
-            text.push_str(*piece)?;
+    for part in row.as_str().split('»') {
+        match repeated(part) {
+            Some((before, count, piece)) => {
+                text.push_str(before)?;
+                for _ in 0..count {
+                    text.push_str(piece)?;
+                }
+            }
+            None => text.push_str(part)?,
         }
     }
     Ok(text)
+}
+
+/// The first row of a table that is answered otherwise, or nothing. A row is a text and what `answer` says of it.
+fn other_row(alloc: Global, table: &str) -> Result<String, AllocError> {
+    for row in table.lines() {
+        let Some((text, want)) = row.split_once(" => ") else {
+            return format!(in alloc; "no row: {row}");
+        };
+        let text = spelled(alloc, text)?;
+        let found = answer(alloc, text.as_str())?;
+        if found.as_str() != want {
+            return format!(in alloc; "{row}, but {found}");
+        }
+    }
+    Ok(String::new(alloc))
+}
+
+/// The first row of a table that is read otherwise, or nothing. A row is a text, what `tree` says of it, and
+/// what `answer` does.
+fn other_tree(alloc: Global, table: &str) -> Result<String, AllocError> {
+    for row in table.lines() {
+        let Some((text, rest)) = row.split_once(" => ") else {
+            return format!(in alloc; "no row: {row}");
+        };
+        let Some((want, depth)) = rest.split_once(" => ") else {
+            return format!(in alloc; "no row: {row}");
+        };
+        let text = spelled(alloc, text)?;
+        let found = tree(alloc, text.as_str())?;
+        if found.as_str() != want {
+            return format!(in alloc; "{row}, but {found}");
+        }
+        let found = answer(alloc, text.as_str())?;
+        if found.as_str() != depth {
+            return format!(in alloc; "{row}, but {found}");
+        }
+    }
+    Ok(String::new(alloc))
 }
 
 /// The place of the end of a program, and its names.
@@ -92,22 +147,38 @@ fn end_and_names(alloc: Global, text: &str) -> Result<String, AllocError> {
     Ok(line)
 }
 
+/// The first row of a table with another end or other names, or nothing. A row is a text and what
+/// `end_and_names` says of it.
+fn other_end(alloc: Global, table: &str) -> Result<String, AllocError> {
+    for row in table.lines() {
+        let Some((text, want)) = row.split_once(" => ") else {
+            return format!(in alloc; "no row: {row}");
+        };
+        let text = spelled(alloc, text)?;
+        let found = end_and_names(alloc, text.as_str())?;
+        if found.as_str() != want {
+            return format!(in alloc; "{row}, but {found}");
+        }
+    }
+    Ok(String::new(alloc))
+}
+
+/// The place of the end, and each name where it first stands.
+const NAMES: &str = "\
+int x; => 1:7 x
+ => 1:1
+int x; // x => 1:12 x
+int x;\\n => 2:1 x
+/* π */ int π;  => 1:16 π
+\r\\n int x;\r\\n  => 3:2 x
+x = y; y = x + y; x[y] = z; => 1:28 x y z
+gphase(1) q; gphase(2) q; => 1:26 gphase q
+gate g(a) q { g(a) q; } => 1:24 g a q
+def f(int a) {} f(a); => 1:22 f a
+";
+
 #[test]
 fn each_name_stands_once(rt: HostRuntime) -> Result<(), Fail> {
-    let table = [
-        ("", "1:1"),
-        ("int x;", "1:7 x"),
-        ("int x; // x", "1:12 x"),
-        ("int x;\n", "2:1 x"),
-        ("/* π */ int π; ", "1:16 π"),
-        ("\r\n int x;\r\n ", "3:2 x"),
-        ("x = y; y = x + y; x[y] = z;", "1:28 x y z"),
-        ("gphase(1) q; gphase(2) q;", "1:26 gphase q"),
-        ("gate g(a) q { g(a) q; }", "1:24 g a q"),
-        ("def f(int a) {} f(a);", "1:22 f a"),
-    ];
-    for (text, want) in table {
-        assert_eq!(rt; end_and_names(rt.alloc(), text)?.as_str(), want, "{text}");
-    }
+    assert_eq!(rt; other_end(rt.alloc(), NAMES)?.as_str(), "");
     Ok(())
 }
