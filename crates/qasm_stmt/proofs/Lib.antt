@@ -12,3 +12,4 @@ pub mod Calling
 pub mod Nesting
 pub mod Compound
 pub mod Members
+pub mod Paying

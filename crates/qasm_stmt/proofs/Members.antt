@@ -95,5 +95,6 @@ pub record Found (text : List ℕ) (room : ℕ) (tokens : List Token) (from : �
   pub within : found.1 ≤ length tokens
   pub read : read_member text (Some 64) room (drop from tokens) ≡ Ok (shown, drop found.1 tokens)
   pub grown : Grown a b
+  pub kept : b.stmts.items ≡ a.stmts.items
   pub few : Few b found.1
   pub sound : Sound b

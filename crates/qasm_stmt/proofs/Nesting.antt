@@ -5,7 +5,6 @@ use Rattle.qasm_lexer.specs.declared.token.Token.{Token}
 use Rattle.qasm_lexer.specs.declared.token.Keyword.{Keyword}
 use Rattle.qasm_lexer.specs.declared.token.Keyword.TheVariants as k
 use Rattle.qasm_lexer.specs.declared.token.Mark.TheVariants as m
-use Rattle.qasm_ast.specs.declared.stmt.Stmt.{Stmt}
 use Rattle.qasm_ast.specs.declared.stmt.StmtId.{StmtId}
 use Rattle.qq_base.specs.declared.refusal.Span.{Span}
 use Rattle.qasm_ast.specs.Tree.{Tree, Statement, Statements, a_statement, no_statement, statements_at}
@@ -22,7 +21,7 @@ use Rattle.qasm_grammar.specs.Parts as p
 use Rattle.qasm_grammar.specs.Reader.{word_kinds, symbol_kinds, stmt_kinds, member_kinds, read_braced, read_block_of, read_body_of, read_member, read_gate_body, read_symbol, read_keyword, read_behind_body, read_stmt, read_stmt_at}
 use Rattle.qasm_grammar.specs.Grammar.{without_else, with_else}
 use Rattle.qasm_stmt.specs.declared.arena.Arena.{Arena}
-use Rattle.qasm_stmt.specs.Seen.{Few, Pushed, Each, Any, IsStatement, IsStatements, IsMember, tree, stmt, deeper_block, deeper_body}
+use Rattle.qasm_stmt.specs.Seen.{Each, Any, IsStatement, IsStatements, IsMember, tree, stmt, deeper_block, deeper_body}
 use Rattle.qasm_stmt.proofs.Growing.{each_all}
 
 -- ---- by the room
@@ -132,7 +131,3 @@ module _ (a : Arena) where
     record { count = lt; each = each_all (IsMember a) (IsGateMember a.stmts.items (length a.stmts.items)) (λ x s h. h.0) xs ss e },
     list_seen (IsMember a) (λ s. s) p.statements (λ x s h. h.1) refl (λ s ss. refl) xs ss e,
   )
-
--- an added statement leaves the other lists as they were
-pub pushed_few : (a b : Arena) (x : Stmt) (id : StmtId) (n : ℕ) → Pushed a b x id → Few a n → Few b n
-pushed_few a b x id n p few = (subst (λ l. length l ≤ n) (sym p.names) few.0, subst (λ l. length l ≤ n) (sym p.exprs) few.1, p.few)

@@ -1,6 +1,6 @@
 -- What a function of the parser answers: the values that its answers stand for, as they are seen through the
 -- lists of the tree, which still grow.
-use Rattle.std.specs.Prelude.{◌≡◌, ℕ, zero, suc, ◌<◌, ◌≤◌, ◌^◌, ◌++◌, Bool, true, false, List, [], ◌∷◌, length, slice_get, Option, Some, None}
+use Rattle.std.specs.Prelude.{◌≡◌, ℕ, zero, suc, ◌+◌, ◌<◌, ◌≤◌, ◌^◌, ◌++◌, Bool, true, false, List, [], ◌∷◌, length, slice_get, Option, Some, None}
 use Rattle.qasm_ast.specs.declared.expr.Expr.{Expr}
 use Rattle.qasm_ast.specs.declared.expr.ExprId.{ExprId}
 use Rattle.qasm_ast.specs.declared.expr.OperandRef.{OperandRef}
@@ -75,10 +75,17 @@ pub record Sound (a : Arena) : Type 0 where
   pub exprs : ExprsFit (length a.names.keys) 0 a.exprs.items
   pub stmts : StmtsFit (length a.names.keys) a.exprs.items a.stmts.items
 
--- at most one name and one expression for each token in front of a place, and no more statements than have
--- numbers
+-- at most one name, one expression and one statement for each token in front of a place
 abbrev pub Few : Arena → ℕ → Type 0
-Few a n = (length a.names.keys ≤ n) × (length a.exprs.items ≤ n) × (length a.stmts.items < 2 ^ 32)
+Few a n = (length a.names.keys ≤ n) × (length a.exprs.items ≤ n) × (length a.stmts.items ≤ n)
+
+-- at most one statement is added for each token from one place to another
+abbrev pub Paid : Arena → Arena → ℕ → ℕ → Type 0
+Paid a b from to = length b.stmts.items + from ≤ length a.stmts.items + to
+
+-- and at least one of the tokens is left for a statement that is not yet in its list
+abbrev pub Spare : Arena → Arena → ℕ → ℕ → Type 0
+Spare a b from to = length b.stmts.items + from < length a.stmts.items + to
 
 -- The old names, expressions and statements stand as they were.
 pub record Grown (a b : Arena) : Type 0 where
@@ -95,7 +102,6 @@ pub record Pushed (a b : Arena) (x : Stmt) (id : StmtId) : Type 0 where
   pub exprs : b.exprs.items ≡ a.exprs.items
   pub stmts : b.stmts.items ≡ a.stmts.items ++ x ∷ []
   pub number : id.0 ≡ length a.stmts.items
-  pub few : length b.stmts.items < 2 ^ 32
 
 -- ---- what the answers stand for
 

@@ -40,6 +40,7 @@ pub fn barrier_line(
     requires sound { Sound arena.old }
     ensures gives { Gives (IsLine arena.new) tokens.now from (read_barrier_line text.now (Some 64) room (drop from tokens.now)) result }
     ensures grown { OnOk result (Grown arena.old arena.new) }
+    ensures kept { OnOk result (arena.new.stmts.items ≡ arena.old.stmts.items) }
     ensures few { IfOk result (λ r. Few arena.new r.1) }
     ensures sound { OnOk result (Sound arena.new) }
 {
@@ -64,6 +65,7 @@ fn reset_line(
     requires sound { Sound arena.old }
     ensures gives { Gives (IsLine arena.new) tokens.now from (read_reset_line text.now (Some 64) room (drop from tokens.now)) result }
     ensures grown { OnOk result (Grown arena.old arena.new) }
+    ensures kept { OnOk result (arena.new.stmts.items ≡ arena.old.stmts.items) }
     ensures few { IfOk result (λ r. Few arena.new r.1) }
     ensures sound { OnOk result (Sound arena.new) }
 {
@@ -88,6 +90,7 @@ fn aim(
     requires sound { Sound arena.old }
     ensures gives { Gives (IfBoth (IsOperand arena.new)) tokens.now from (read_aim text.now (Some 64) room (drop from tokens.now)) result }
     ensures grown { OnOk result (Grown arena.old arena.new) }
+    ensures kept { OnOk result (arena.new.stmts.items ≡ arena.old.stmts.items) }
     ensures few { IfOk result (λ r. Few arena.new r.1) }
     ensures sound { OnOk result (Sound arena.new) }
 {
@@ -113,6 +116,7 @@ fn measure_line(
     requires sound { Sound arena.old }
     ensures gives { Gives (IsLine arena.new) tokens.now from (read_measure_line text.now (Some 64) room (drop from tokens.now)) result }
     ensures grown { OnOk result (Grown arena.old arena.new) }
+    ensures kept { OnOk result (arena.new.stmts.items ≡ arena.old.stmts.items) }
     ensures few { IfOk result (λ r. Few arena.new r.1) }
     ensures sound { OnOk result (Sound arena.new) }
 {
@@ -138,6 +142,7 @@ fn returned(
     requires sound { Sound arena.old }
     ensures gives { Gives (IfBoth (IsValue arena.new)) tokens.now from (read_returned text.now (Some 64) room (drop from tokens.now)) result }
     ensures grown { OnOk result (Grown arena.old arena.new) }
+    ensures kept { OnOk result (arena.new.stmts.items ≡ arena.old.stmts.items) }
     ensures few { IfOk result (λ r. Few arena.new r.1) }
     ensures sound { OnOk result (Sound arena.new) }
 {
@@ -163,6 +168,7 @@ fn return_line(
     requires sound { Sound arena.old }
     ensures gives { Gives (IsLine arena.new) tokens.now from (read_return_line text.now (Some 64) room (drop from tokens.now)) result }
     ensures grown { OnOk result (Grown arena.old arena.new) }
+    ensures kept { OnOk result (arena.new.stmts.items ≡ arena.old.stmts.items) }
     ensures few { IfOk result (λ r. Few arena.new r.1) }
     ensures sound { OnOk result (Sound arena.new) }
 {
@@ -277,6 +283,7 @@ fn assigned(
     ensures gives { (o : Operand) → IsOperand arena.old target o →
         Gives (IsLine arena.new) tokens.now from (read_assigned text.now (Some 64) room o (drop from tokens.now)) result }
     ensures grown { OnOk result (Grown arena.old arena.new) }
+    ensures kept { OnOk result (arena.new.stmts.items ≡ arena.old.stmts.items) }
     ensures few { IfOk result (λ r. Few arena.new r.1) }
     ensures sound { OnOk result (Sound arena.new) }
 {
@@ -313,6 +320,7 @@ fn behind_name(
     ensures gives { (x : List ℕ × Span) → IsName arena.old name (named x) →
         Gives (IsLine arena.new) tokens.now from (read_behind_name text.now (Some 64) room x (drop from tokens.now)) result }
     ensures grown { OnOk result (Grown arena.old arena.new) }
+    ensures kept { OnOk result (arena.new.stmts.items ≡ arena.old.stmts.items) }
     ensures few { IfOk result (λ r. Few arena.new r.1) }
     ensures sound { OnOk result (Sound arena.new) }
 {
@@ -363,6 +371,7 @@ pub fn action(
     requires sound { Sound arena.old }
     ensures gives { Gives (IsLine arena.new) tokens.now from (read_action text.now (Some 64) room (drop from tokens.now)) result }
     ensures grown { OnOk result (Grown arena.old arena.new) }
+    ensures kept { OnOk result (arena.new.stmts.items ≡ arena.old.stmts.items) }
     ensures few { IfOk result (λ r. Few arena.new r.1) }
     ensures sound { OnOk result (Sound arena.new) }
 {

@@ -1,6 +1,6 @@
 //! The lists of a tree that is being read.
 
-ghost use Rattle.std.specs.Prelude.{◌≡◌, [], Ok, Err, IfOk, IfErr};
+ghost use Rattle.std.specs.Prelude.{◌≡◌, ◌<◌, ◌^◌, [], length, Ok, Err, IfOk, IfErr};
 ghost use Rattle.qasm_expr.specs.declared.stop.Stop.TheVariants.{Memory};
 ghost use Rattle.qasm_stmt.specs.Seen.{Pushed};
 
@@ -32,17 +32,13 @@ impl Arena {
     }
 }
 
-/// Adds a statement, and gives its number. A list so long that there is no number left, which would take some
-/// hundred gigabytes, is for want of memory.
+/// Adds a statement, and gives its number.
 pub fn push(arena: &mut Arena, stmt: Stmt) -> Result<StmtId, Stop>
+    requires room { length arena.old.stmts.items < 2 ^ 32 }
     ensures pushed { IfOk result (Pushed arena.old arena.new stmt) }
     ensures memory { IfErr result (λ e. e ≡ Memory) }
 {
-    let number = arena.stmts.len();
-    if number >= u32::MAX as usize {
-        return Err(Stop::Memory);
-    }
-    let id = StmtId(number as u32);
+    let id = StmtId(arena.stmts.len() as u32);
     match arena.stmts.push(stmt) {
         Ok(()) => Ok(id),
         Err(_) => Err(Stop::Memory),

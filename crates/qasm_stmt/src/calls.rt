@@ -45,6 +45,7 @@ pub fn applied(
     ensures gives { (x : Name) (es : List Tree) → IsName arena.old gate x → IsList (IsTree arena.old) args.items es →
         Gives (IsCall arena.new) tokens.now from (read_applied text.now (Some 64) room x es (drop from tokens.now)) result }
     ensures grown { OnOk result (Grown arena.old arena.new) }
+    ensures kept { OnOk result (arena.new.stmts.items ≡ arena.old.stmts.items) }
     ensures few { IfOk result (λ r. Few arena.new r.1) }
     ensures sound { OnOk result (Sound arena.new) }
 {
@@ -76,6 +77,7 @@ fn named_call(
     requires sound { Sound arena.old }
     ensures gives { Gives (IsCall arena.new) tokens.now from (read_named_call text.now (Some 64) room (drop from tokens.now)) result }
     ensures grown { OnOk result (Grown arena.old arena.new) }
+    ensures kept { OnOk result (arena.new.stmts.items ≡ arena.old.stmts.items) }
     ensures few { IfOk result (λ r. Few arena.new r.1) }
     ensures sound { OnOk result (Sound arena.new) }
 {
@@ -103,6 +105,7 @@ fn phase(
     requires sound { Sound arena.old }
     ensures gives { Gives (IsCall arena.new) tokens.now from (read_phase text.now (Some 64) room (drop from tokens.now)) result }
     ensures grown { OnOk result (Grown arena.old arena.new) }
+    ensures kept { OnOk result (arena.new.stmts.items ≡ arena.old.stmts.items) }
     ensures few { IfOk result (λ r. Few arena.new r.1) }
     ensures sound { OnOk result (Sound arena.new) }
 {
@@ -142,6 +145,7 @@ fn plain_call(
     requires sound { Sound arena.old }
     ensures gives { Gives (IsCall arena.new) tokens.now from (read_plain_call text.now (Some 64) room (drop from tokens.now)) result }
     ensures grown { OnOk result (Grown arena.old arena.new) }
+    ensures kept { OnOk result (arena.new.stmts.items ≡ arena.old.stmts.items) }
     ensures few { IfOk result (λ r. Few arena.new r.1) }
     ensures sound { OnOk result (Sound arena.new) }
 {
@@ -166,6 +170,7 @@ fn modifier(
     requires sound { Sound arena.old }
     ensures gives { Gives (IsChange arena.new) tokens.now from (read_modifier text.now (Some 64) room (drop from tokens.now)) result }
     ensures grown { OnOk result (Grown arena.old arena.new) }
+    ensures kept { OnOk result (arena.new.stmts.items ≡ arena.old.stmts.items) }
     ensures few { IfOk result (λ r. Few arena.new r.1) }
     ensures sound { OnOk result (Sound arena.new) }
 {
@@ -201,6 +206,7 @@ fn call(
     requires sound { Sound arena.old }
     ensures gives { Gives (IsCall arena.new) tokens.now from (read_call text.now (Some 64) room (drop from tokens.now)) result }
     ensures grown { OnOk result (Grown arena.old arena.new) }
+    ensures kept { OnOk result (arena.new.stmts.items ≡ arena.old.stmts.items) }
     ensures few { IfOk result (λ r. Few arena.new r.1) }
     ensures sound { OnOk result (Sound arena.new) }
 {
@@ -278,6 +284,7 @@ pub fn call_line(
     requires sound { Sound arena.old }
     ensures gives { Gives (IsLine arena.new) tokens.now from (read_call_line text.now (Some 64) room (drop from tokens.now)) result }
     ensures grown { OnOk result (Grown arena.old arena.new) }
+    ensures kept { OnOk result (arena.new.stmts.items ≡ arena.old.stmts.items) }
     ensures few { IfOk result (λ r. Few arena.new r.1) }
     ensures sound { OnOk result (Sound arena.new) }
 {

@@ -92,6 +92,7 @@ pub fn qubit_line(
     requires sound { Sound arena.old }
     ensures gives { Gives (IsLine arena.new) tokens.now from (read_qubit_line text.now (Some 64) room (drop from tokens.now)) result }
     ensures grown { OnOk result (Grown arena.old arena.new) }
+    ensures kept { OnOk result (arena.new.stmts.items ≡ arena.old.stmts.items) }
     ensures few { IfOk result (λ r. Few arena.new r.1) }
     ensures sound { OnOk result (Sound arena.new) }
 {
@@ -121,6 +122,7 @@ pub fn qreg_line(
     requires sound { Sound arena.old }
     ensures gives { Gives (IsLine arena.new) tokens.now from (read_qreg_line text.now (Some 64) room (drop from tokens.now)) result }
     ensures grown { OnOk result (Grown arena.old arena.new) }
+    ensures kept { OnOk result (arena.new.stmts.items ≡ arena.old.stmts.items) }
     ensures few { IfOk result (λ r. Few arena.new r.1) }
     ensures sound { OnOk result (Sound arena.new) }
 {
@@ -150,6 +152,7 @@ pub fn creg_line(
     requires sound { Sound arena.old }
     ensures gives { Gives (IsLine arena.new) tokens.now from (read_creg_line text.now (Some 64) room (drop from tokens.now)) result }
     ensures grown { OnOk result (Grown arena.old arena.new) }
+    ensures kept { OnOk result (arena.new.stmts.items ≡ arena.old.stmts.items) }
     ensures few { IfOk result (λ r. Few arena.new r.1) }
     ensures sound { OnOk result (Sound arena.new) }
 {
@@ -177,6 +180,7 @@ fn initial(
     requires sound { Sound arena.old }
     ensures gives { Gives (IfBoth (IsValue arena.new)) tokens.now from (read_initial text.now (Some 64) room (drop from tokens.now)) result }
     ensures grown { OnOk result (Grown arena.old arena.new) }
+    ensures kept { OnOk result (arena.new.stmts.items ≡ arena.old.stmts.items) }
     ensures few { IfOk result (λ r. Few arena.new r.1) }
     ensures sound { OnOk result (Sound arena.new) }
 {
@@ -202,6 +206,7 @@ pub fn variable_line(
     requires sound { Sound arena.old }
     ensures gives { Gives (IsLine arena.new) tokens.now from (read_variable_line text.now (Some 64) room (drop from tokens.now)) result }
     ensures grown { OnOk result (Grown arena.old arena.new) }
+    ensures kept { OnOk result (arena.new.stmts.items ≡ arena.old.stmts.items) }
     ensures few { IfOk result (λ r. Few arena.new r.1) }
     ensures sound { OnOk result (Sound arena.new) }
 {
@@ -228,6 +233,7 @@ pub fn constant_line(
     requires sound { Sound arena.old }
     ensures gives { Gives (IsLine arena.new) tokens.now from (read_constant_line text.now (Some 64) room (drop from tokens.now)) result }
     ensures grown { OnOk result (Grown arena.old arena.new) }
+    ensures kept { OnOk result (arena.new.stmts.items ≡ arena.old.stmts.items) }
     ensures few { IfOk result (λ r. Few arena.new r.1) }
     ensures sound { OnOk result (Sound arena.new) }
 {
@@ -255,6 +261,7 @@ pub fn output_line(
     requires sound { Sound arena.old }
     ensures gives { Gives (IsLine arena.new) tokens.now from (read_output_line text.now (Some 64) room (drop from tokens.now)) result }
     ensures grown { OnOk result (Grown arena.old arena.new) }
+    ensures kept { OnOk result (arena.new.stmts.items ≡ arena.old.stmts.items) }
     ensures few { IfOk result (λ r. Few arena.new r.1) }
     ensures sound { OnOk result (Sound arena.new) }
 {
@@ -281,6 +288,7 @@ fn joins(
     ensures gives { Gives (λ v os. IsList (IsOperand arena.new) v.items os) tokens.now from (read_joins text.now (Some 64) room (drop from tokens.now)) result }
     ensures count { IfOk result (λ r. length r.0.items + from ≤ r.1) }
     ensures grown { OnOk result (Grown arena.old arena.new) }
+    ensures kept { OnOk result (arena.new.stmts.items ≡ arena.old.stmts.items) }
     ensures few { IfOk result (λ r. Few arena.new r.1) }
     ensures sound { OnOk result (Sound arena.new) }
 {
@@ -311,6 +319,7 @@ pub fn alias_line(
     requires sound { Sound arena.old }
     ensures gives { Gives (IsLine arena.new) tokens.now from (read_alias_line text.now (Some 64) room (drop from tokens.now)) result }
     ensures grown { OnOk result (Grown arena.old arena.new) }
+    ensures kept { OnOk result (arena.new.stmts.items ≡ arena.old.stmts.items) }
     ensures few { IfOk result (λ r. Few arena.new r.1) }
     ensures sound { OnOk result (Sound arena.new) }
 {

@@ -27,6 +27,7 @@ pub fn expression(
     requires sound { Sound arena.old }
     ensures gives { Gives (IsTree arena.new) tokens.now from (read_expr text.now (Some 64) room (drop from tokens.now)) result }
     ensures grown { OnOk result (Grown arena.old arena.new) }
+    ensures kept { OnOk result (arena.new.stmts.items ≡ arena.old.stmts.items) }
     ensures few { IfOk result (λ r. Few arena.new r.1) }
     ensures sound { OnOk result (Sound arena.new) }
 {
@@ -56,6 +57,7 @@ pub fn condition(
     requires sound { Sound arena.old }
     ensures gives { Gives (IsTree arena.new) tokens.now from (read_condition text.now (Some 64) room (drop from tokens.now)) result }
     ensures grown { OnOk result (Grown arena.old arena.new) }
+    ensures kept { OnOk result (arena.new.stmts.items ≡ arena.old.stmts.items) }
     ensures few { IfOk result (λ r. Few arena.new r.1) }
     ensures sound { OnOk result (Sound arena.new) }
 {
@@ -88,6 +90,7 @@ pub fn any_width(
     requires sound { Sound arena.old }
     ensures gives { Gives (IfBoth (IsTree arena.new)) tokens.now from (read_any_width text.now (Some 64) room (drop from tokens.now)) result }
     ensures grown { OnOk result (Grown arena.old arena.new) }
+    ensures kept { OnOk result (arena.new.stmts.items ≡ arena.old.stmts.items) }
     ensures few { IfOk result (λ r. Few arena.new r.1) }
     ensures sound { OnOk result (Sound arena.new) }
 {
@@ -124,6 +127,7 @@ pub fn any_type(
     requires sound { Sound arena.old }
     ensures gives { Gives (IsType arena.new) tokens.now from (read_any_type text.now (Some 64) room (drop from tokens.now)) result }
     ensures grown { OnOk result (Grown arena.old arena.new) }
+    ensures kept { OnOk result (arena.new.stmts.items ≡ arena.old.stmts.items) }
     ensures few { IfOk result (λ r. Few arena.new r.1) }
     ensures sound { OnOk result (Sound arena.new) }
 {
@@ -153,6 +157,7 @@ pub fn brackets(
     requires sound { Sound arena.old }
     ensures gives { Gives (λ v bs. IsBrackets arena.new v.items bs) tokens.now from (read_indexes text.now room (read_inside text.now (Some 64) room) (drop from tokens.now)) result }
     ensures grown { OnOk result (Grown arena.old arena.new) }
+    ensures kept { OnOk result (arena.new.stmts.items ≡ arena.old.stmts.items) }
     ensures few { IfOk result (λ r. Few arena.new r.1) }
     ensures sound { OnOk result (Sound arena.new) }
 {
@@ -182,6 +187,7 @@ pub fn arguments(
     requires sound { Sound arena.old }
     ensures gives { Gives (λ v ts. IsList (IsTree arena.new) v.items ts) tokens.now from (read_arguments text.now room (read_inner text.now (Some 64) room) (drop from tokens.now)) result }
     ensures grown { OnOk result (Grown arena.old arena.new) }
+    ensures kept { OnOk result (arena.new.stmts.items ≡ arena.old.stmts.items) }
     ensures few { IfOk result (λ r. Few arena.new r.1) }
     ensures sound { OnOk result (Sound arena.new) }
 {
@@ -215,6 +221,7 @@ pub fn members(
     requires sound { Sound arena.old }
     ensures gives { Gives (λ v ts. IsList (IsTree arena.new) v.items ts) tokens.now from (read_list text.now true (read_expr text.now (Some 64) room) (drop from tokens.now)) result }
     ensures grown { OnOk result (Grown arena.old arena.new) }
+    ensures kept { OnOk result (arena.new.stmts.items ≡ arena.old.stmts.items) }
     ensures few { IfOk result (λ r. Few arena.new r.1) }
     ensures sound { OnOk result (Sound arena.new) }
 {

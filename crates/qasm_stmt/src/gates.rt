@@ -3,7 +3,7 @@
 ghost use Rattle.std.specs.Prelude.{◌≡◌, ◌≤◌, Some, Ok, length, drop, IfOk, OnOk};
 ghost use Rattle.qasm_expr.specs.Seen.{Cut, Gives};
 ghost use Rattle.qasm_grammar.specs.Reader.{read_member, read_gate_body, read_gate_definition, member_kinds};
-ghost use Rattle.qasm_stmt.specs.Seen.{Sound, Few, Grown, IsMember, IsGateBody, IsLine};
+ghost use Rattle.qasm_stmt.specs.Seen.{Sound, Few, Grown, Paid, Spare, IsMember, IsGateBody, IsLine};
 
 use crate::actions::barrier_line;
 use crate::arena::{Arena, push};
@@ -33,6 +33,7 @@ fn member(
     requires sound { Sound arena.old }
     ensures gives { Gives (IsMember arena.new) tokens.now from (read_member text.now (Some 64) room (drop from tokens.now)) result }
     ensures grown { OnOk result (Grown arena.old arena.new) }
+    ensures paid { IfOk result (λ r. Paid arena.old arena.new from r.1) }
     ensures few { IfOk result (λ r. Few arena.new r.1) }
     ensures sound { OnOk result (Sound arena.new) }
 {
@@ -60,6 +61,7 @@ fn gate_body(
     requires sound { Sound arena.old }
     ensures gives { Gives (IsGateBody arena.new) tokens.now from (read_gate_body text.now (Some 64) room (drop from tokens.now)) result }
     ensures grown { OnOk result (Grown arena.old arena.new) }
+    ensures spare { IfOk result (λ r. Spare arena.old arena.new from r.1) }
     ensures few { IfOk result (λ r. Few arena.new r.1) }
     ensures sound { OnOk result (Sound arena.new) }
 {
@@ -92,6 +94,7 @@ pub fn gate_definition(
     requires sound { Sound arena.old }
     ensures gives { Gives (IsLine arena.new) tokens.now from (read_gate_definition text.now (Some 64) room (drop from tokens.now)) result }
     ensures grown { OnOk result (Grown arena.old arena.new) }
+    ensures spare { IfOk result (λ r. Spare arena.old arena.new from r.1) }
     ensures few { IfOk result (λ r. Few arena.new r.1) }
     ensures sound { OnOk result (Sound arena.new) }
 {

@@ -27,6 +27,7 @@ pub fn declared(
     requires sound { Sound arena.old }
     ensures gives { Gives (IsName arena.new) tokens.now from (read_name text.now (drop from tokens.now)) result }
     ensures grown { OnOk result (Grown arena.old arena.new) }
+    ensures kept { OnOk result (arena.new.stmts.items ≡ arena.old.stmts.items) }
     ensures few { IfOk result (λ r. Few arena.new r.1) }
     ensures sound { OnOk result (Sound arena.new) }
 {
@@ -51,6 +52,7 @@ pub fn names(
     requires sound { Sound arena.old }
     ensures gives { Gives (λ v xs. IsList (IsName arena.new) v.items xs) tokens.now from (read_listed text.now name_kinds filled (read_name text.now) (drop from tokens.now)) result }
     ensures grown { OnOk result (Grown arena.old arena.new) }
+    ensures kept { OnOk result (arena.new.stmts.items ≡ arena.old.stmts.items) }
     ensures few { IfOk result (λ r. Few arena.new r.1) }
     ensures sound { OnOk result (Sound arena.new) }
 {

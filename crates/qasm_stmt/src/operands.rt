@@ -33,6 +33,7 @@ pub fn target(
     requires sound { Sound arena.old }
     ensures gives { Gives (IsOperand arena.new) tokens.now from (read_target text.now (Some 64) room (drop from tokens.now)) result }
     ensures grown { OnOk result (Grown arena.old arena.new) }
+    ensures kept { OnOk result (arena.new.stmts.items ≡ arena.old.stmts.items) }
     ensures few { IfOk result (λ r. Few arena.new r.1) }
     ensures sound { OnOk result (Sound arena.new) }
 {
@@ -86,6 +87,7 @@ pub fn operand(
     requires sound { Sound arena.old }
     ensures gives { Gives (IsOperand arena.new) tokens.now from (read_operand text.now (Some 64) room (drop from tokens.now)) result }
     ensures grown { OnOk result (Grown arena.old arena.new) }
+    ensures kept { OnOk result (arena.new.stmts.items ≡ arena.old.stmts.items) }
     ensures few { IfOk result (λ r. Few arena.new r.1) }
     ensures sound { OnOk result (Sound arena.new) }
 {
@@ -111,6 +113,7 @@ pub fn operands(
     requires sound { Sound arena.old }
     ensures gives { Gives (λ v os. IsList (IsOperand arena.new) v.items os) tokens.now from (read_listed text.now operand_kinds filled (read_operand text.now (Some 64) room) (drop from tokens.now)) result }
     ensures grown { OnOk result (Grown arena.old arena.new) }
+    ensures kept { OnOk result (arena.new.stmts.items ≡ arena.old.stmts.items) }
     ensures few { IfOk result (λ r. Few arena.new r.1) }
     ensures sound { OnOk result (Sound arena.new) }
 {
@@ -146,6 +149,7 @@ pub fn value(
     requires sound { Sound arena.old }
     ensures gives { Gives (IsValue arena.new) tokens.now from (read_value text.now (Some 64) room (drop from tokens.now)) result }
     ensures grown { OnOk result (Grown arena.old arena.new) }
+    ensures kept { OnOk result (arena.new.stmts.items ≡ arena.old.stmts.items) }
     ensures few { IfOk result (λ r. Few arena.new r.1) }
     ensures sound { OnOk result (Sound arena.new) }
 {

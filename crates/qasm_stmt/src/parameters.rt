@@ -31,6 +31,7 @@ pub fn parameter(
     requires sound { Sound arena.old }
     ensures gives { Gives (IsParameter arena.new) tokens.now from (read_parameter text.now (Some 64) room (drop from tokens.now)) result }
     ensures grown { OnOk result (Grown arena.old arena.new) }
+    ensures kept { OnOk result (arena.new.stmts.items ≡ arena.old.stmts.items) }
     ensures few { IfOk result (λ r. Few arena.new r.1) }
     ensures sound { OnOk result (Sound arena.new) }
 {
@@ -65,6 +66,7 @@ fn parameter_list(
     requires sound { Sound arena.old }
     ensures gives { Gives (λ v ps. IsList (IsParameter arena.new) v.items ps) tokens.now from (read_listed text.now parameter_kinds false (read_parameter text.now (Some 64) room) (drop from tokens.now)) result }
     ensures grown { OnOk result (Grown arena.old arena.new) }
+    ensures kept { OnOk result (arena.new.stmts.items ≡ arena.old.stmts.items) }
     ensures few { IfOk result (λ r. Few arena.new r.1) }
     ensures sound { OnOk result (Sound arena.new) }
 {
@@ -98,6 +100,7 @@ pub fn parameters(
     requires sound { Sound arena.old }
     ensures gives { Gives (λ v ps. IsList (IsParameter arena.new) v.items ps) tokens.now from (read_parameters text.now (Some 64) room (drop from tokens.now)) result }
     ensures grown { OnOk result (Grown arena.old arena.new) }
+    ensures kept { OnOk result (arena.new.stmts.items ≡ arena.old.stmts.items) }
     ensures few { IfOk result (λ r. Few arena.new r.1) }
     ensures sound { OnOk result (Sound arena.new) }
 {
@@ -122,6 +125,7 @@ pub fn any_gate_parameters(
     requires sound { Sound arena.old }
     ensures gives { Gives (λ v xs. IsList (IsName arena.new) v.items xs) tokens.now from (read_any_gate_parameters text.now room (drop from tokens.now)) result }
     ensures grown { OnOk result (Grown arena.old arena.new) }
+    ensures kept { OnOk result (arena.new.stmts.items ≡ arena.old.stmts.items) }
     ensures few { IfOk result (λ r. Few arena.new r.1) }
     ensures sound { OnOk result (Sound arena.new) }
 {
@@ -149,6 +153,7 @@ pub fn result(
     requires sound { Sound arena.old }
     ensures gives { Gives (IfBoth (IsType arena.new)) tokens.now from (read_result text.now (Some 64) room (drop from tokens.now)) result }
     ensures grown { OnOk result (Grown arena.old arena.new) }
+    ensures kept { OnOk result (arena.new.stmts.items ≡ arena.old.stmts.items) }
     ensures few { IfOk result (λ r. Few arena.new r.1) }
     ensures sound { OnOk result (Sound arena.new) }
 {

@@ -1,11 +1,11 @@
 //! Statements, by recursive descent. Every recursion passes a level, of which there are 64 at most; lists of
 //! statements are loops.
 
-ghost use Rattle.std.specs.Prelude.{◌≡◌, ◌≤◌, Some, Ok, length, drop, IfOk, OnOk};
+ghost use Rattle.std.specs.Prelude.{◌≡◌, ◌≤◌, ◌<◌, Some, Ok, length, drop, IfOk, OnOk};
 ghost use Rattle.qasm_expr.specs.Seen.{Cut, Gives};
 ghost use Rattle.qasm_grammar.specs.Reader.{read_stmt, read_all_stmts, read_declaration, read_control, read_conditional, read_while_loop, read_for_loop, read_subroutine_definition};
 ghost use Rattle.qasm_grammar.specs.Parts.{opened_statements};
-ghost use Rattle.qasm_stmt.specs.Seen.{Sound, Few, Grown, IsStatements, IsOpened, IsBlock, IsBody, IsLine, IsOpenLine, deeper_block, deeper_body};
+ghost use Rattle.qasm_stmt.specs.Seen.{Sound, Few, Grown, Paid, Spare, IsStatements, IsOpened, IsBlock, IsBody, IsLine, IsOpenLine, deeper_block, deeper_body};
 
 use crate::actions::action;
 use crate::arena::{Arena, push};
@@ -45,6 +45,7 @@ fn stmt(
     requires sound { Sound arena.old }
     ensures gives { Gives (IsOpened arena.new) tokens.now from (read_stmt text.now (Some 64) room (drop from tokens.now)) result }
     ensures grown { OnOk result (Grown arena.old arena.new) }
+    ensures paid { IfOk result (λ r. Paid arena.old arena.new from r.1) }
     ensures few { IfOk result (λ r. Few arena.new r.1) }
     ensures sound { OnOk result (Sound arena.new) }
 {
@@ -69,6 +70,7 @@ fn unlisted(
     requires sound { Sound arena.old }
     ensures gives { Gives (IsOpenLine arena.new) tokens.now from (read_stmt text.now (Some 64) room (drop from tokens.now)) result }
     ensures grown { OnOk result (Grown arena.old arena.new) }
+    ensures spare { IfOk result (λ r. Spare arena.old arena.new from r.1) }
     ensures few { IfOk result (λ r. Few arena.new r.1) }
     ensures sound { OnOk result (Sound arena.new) }
 {
@@ -99,6 +101,7 @@ fn declaration(
     requires sound { Sound arena.old }
     ensures gives { Gives (IsLine arena.new) tokens.now from (read_declaration text.now (Some 64) room (deeper_block text.now room) (drop from tokens.now)) result }
     ensures grown { OnOk result (Grown arena.old arena.new) }
+    ensures spare { IfOk result (λ r. from < r.1 → Spare arena.old arena.new from r.1) }
     ensures few { IfOk result (λ r. Few arena.new r.1) }
     ensures sound { OnOk result (Sound arena.new) }
 {
@@ -148,6 +151,7 @@ fn subroutine_definition(
     requires sound { Sound arena.old }
     ensures gives { Gives (IsLine arena.new) tokens.now from (read_subroutine_definition text.now (Some 64) room (deeper_block text.now room) (drop from tokens.now)) result }
     ensures grown { OnOk result (Grown arena.old arena.new) }
+    ensures spare { IfOk result (λ r. Spare arena.old arena.new from r.1) }
     ensures few { IfOk result (λ r. Few arena.new r.1) }
     ensures sound { OnOk result (Sound arena.new) }
 {
@@ -184,6 +188,7 @@ fn block(
     requires sound { Sound arena.old }
     ensures gives { Gives (IsBlock arena.new) tokens.now from (deeper_block text.now room (drop from tokens.now)) result }
     ensures grown { OnOk result (Grown arena.old arena.new) }
+    ensures spare { IfOk result (λ r. Spare arena.old arena.new from r.1) }
     ensures few { IfOk result (λ r. Few arena.new r.1) }
     ensures sound { OnOk result (Sound arena.new) }
 {
@@ -209,6 +214,7 @@ pub fn stmts(
     requires sound { Sound arena.old }
     ensures gives { Gives (λ v os. IsStatements arena.new v.items (opened_statements os)) tokens.now from (read_all_stmts text.now (Some 64) room (drop from tokens.now)) result }
     ensures grown { OnOk result (Grown arena.old arena.new) }
+    ensures paid { IfOk result (λ r. Paid arena.old arena.new from r.1) }
     ensures few { IfOk result (λ r. Few arena.new r.1) }
     ensures sound { OnOk result (Sound arena.new) }
 {
@@ -240,6 +246,7 @@ fn body(
     requires sound { Sound arena.old }
     ensures gives { Gives (IsBody arena.new) tokens.now from (deeper_body text.now room (drop from tokens.now)) result }
     ensures grown { OnOk result (Grown arena.old arena.new) }
+    ensures paid { IfOk result (λ r. Paid arena.old arena.new from r.1) }
     ensures few { IfOk result (λ r. Few arena.new r.1) }
     ensures sound { OnOk result (Sound arena.new) }
 {
@@ -288,6 +295,7 @@ fn control(
     requires sound { Sound arena.old }
     ensures gives { Gives (IsOpenLine arena.new) tokens.now from (read_control text.now (Some 64) room (deeper_body text.now room) (drop from tokens.now)) result }
     ensures grown { OnOk result (Grown arena.old arena.new) }
+    ensures spare { IfOk result (λ r. Spare arena.old arena.new from r.1) }
     ensures few { IfOk result (λ r. Few arena.new r.1) }
     ensures sound { OnOk result (Sound arena.new) }
 {
@@ -316,6 +324,7 @@ fn conditional(
     requires sound { Sound arena.old }
     ensures gives { Gives (IsOpenLine arena.new) tokens.now from (read_conditional text.now (Some 64) room (deeper_body text.now room) (drop from tokens.now)) result }
     ensures grown { OnOk result (Grown arena.old arena.new) }
+    ensures spare { IfOk result (λ r. Spare arena.old arena.new from r.1) }
     ensures few { IfOk result (λ r. Few arena.new r.1) }
     ensures sound { OnOk result (Sound arena.new) }
 {
@@ -358,6 +367,7 @@ fn while_loop(
     requires sound { Sound arena.old }
     ensures gives { Gives (IsOpenLine arena.new) tokens.now from (read_while_loop text.now (Some 64) room (deeper_body text.now room) (drop from tokens.now)) result }
     ensures grown { OnOk result (Grown arena.old arena.new) }
+    ensures spare { IfOk result (λ r. Spare arena.old arena.new from r.1) }
     ensures few { IfOk result (λ r. Few arena.new r.1) }
     ensures sound { OnOk result (Sound arena.new) }
 {
@@ -390,6 +400,7 @@ fn for_loop(
     requires sound { Sound arena.old }
     ensures gives { Gives (IsOpenLine arena.new) tokens.now from (read_for_loop text.now (Some 64) room (deeper_body text.now room) (drop from tokens.now)) result }
     ensures grown { OnOk result (Grown arena.old arena.new) }
+    ensures spare { IfOk result (λ r. Spare arena.old arena.new from r.1) }
     ensures few { IfOk result (λ r. Few arena.new r.1) }
     ensures sound { OnOk result (Sound arena.new) }
 {

@@ -35,6 +35,7 @@ fn span(
     requires sound { Sound arena.old }
     ensures gives { Gives (IsTurns arena.new) tokens.now from (read_span text.now (Some 64) room (drop from tokens.now)) result }
     ensures grown { OnOk result (Grown arena.old arena.new) }
+    ensures kept { OnOk result (arena.new.stmts.items ≡ arena.old.stmts.items) }
     ensures few { IfOk result (λ r. Few arena.new r.1) }
     ensures sound { OnOk result (Sound arena.new) }
 {
@@ -66,6 +67,7 @@ fn chosen(
     requires sound { Sound arena.old }
     ensures gives { Gives (IsTurns arena.new) tokens.now from (read_chosen text.now (Some 64) room (drop from tokens.now)) result }
     ensures grown { OnOk result (Grown arena.old arena.new) }
+    ensures kept { OnOk result (arena.new.stmts.items ≡ arena.old.stmts.items) }
     ensures few { IfOk result (λ r. Few arena.new r.1) }
     ensures sound { OnOk result (Sound arena.new) }
 {
@@ -90,6 +92,7 @@ pub fn turns(
     requires sound { Sound arena.old }
     ensures gives { Gives (IsTurns arena.new) tokens.now from (read_turns text.now (Some 64) room (drop from tokens.now)) result }
     ensures grown { OnOk result (Grown arena.old arena.new) }
+    ensures kept { OnOk result (arena.new.stmts.items ≡ arena.old.stmts.items) }
     ensures few { IfOk result (λ r. Few arena.new r.1) }
     ensures sound { OnOk result (Sound arena.new) }
 {

@@ -1,4 +1,4 @@
-use Rattle.std.proofs.Common.{◌++◌, ◌∷◌, [], length, le_refl, sym, ap, ◌∙◌, length-append, arith}
+use Rattle.std.proofs.Common.{◌++◌, ◌∷◌, [], length, le_refl, sym, ap, ◌∙◌, length-append, arith, refl}
 use Rattle.qasm_expr.proofs.Units.{pushed}
 use Rattle.qasm_stmt.specs.Seen.{IsChange}
 use Rattle.qasm_stmt.proofs.Changes.{changing_start, changing_full, changing_err, changing_at, changing_more, changing_plain, changing_end}
@@ -13,6 +13,7 @@ mods-init c =
       changing = changing_start _ _ (IsChange c.args.arena.now) c.new-mods.result.items c.args.room c.args.from c.new-mods.ensures.items;
       count = omega (arith, ap length c.new-mods.ensures.items);
       grown = grown_same _;
+      kept = refl;
       few = c.requires.few;
       sound = c.requires.sound;
       start = le_refl _;
@@ -44,6 +45,7 @@ mods-preserved c =
       changing = changing_more _ _ g (sym c.begins_change.ensures ∙ c.mods-test.true) (omega arith) r.0 _ r.4 (IsChange c.modifier.new.arena) c.in_ok-next.next k.0 c.push.new.self.items seen k.4;
       count = omega (arith, ap length push, length-append c.mods.mods.items (c.in_ok-change.change ∷ []), r.2, k.1, c.mods.invariant.count);
       grown = grown_on c.mods.invariant.grown c.in_ok-change.ensures.grown;
+      kept = c.in_ok-change.ensures.kept ∙ c.mods.invariant.kept;
       few = (omega (arith, few.0, k.1), omega (arith, few.1, k.1), omega (arith, few.2, k.1));
       sound = c.in_ok-change.ensures.sound;
       start = omega (arith, c.mods.invariant.start, r.2, k.1);

@@ -22,6 +22,9 @@ returns-then-not-sees-clause-gives c =
     let none = heads_sign c.args.text.now (mark_kind m.LeftParen) (drop c.in_ok-gate.at c.args.tokens.now) false (omega arith) (sym c.sees.ensures.value ∙ c.if-not-sees.true) in
     behind _ _ _ _ _ _ c.applied.result g.2 (rw (g.4, none) refl) (c.applied.ensures.gives g.0 [] g.1 (no_items (IsTree c.declared.new.arena) c.new-none.result.items c.new-none.ensures.items))
 
+pub returns-then-not-sees-clause-grown : goal.returns-then-not-sees-clause-grown
+returns-then-not-sees-clause-grown c = on_ok_weaker c.applied.result (grown_on c.in_ok-gate.ensures.grown) c.applied.ensures.grown
+
 pub returns-in_err-args-clause-gives : goal.returns-in_err-args-clause-gives
 unfolding read_named_call
 returns-in_err-args-clause-gives c =

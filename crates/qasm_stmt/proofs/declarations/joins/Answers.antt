@@ -16,6 +16,7 @@ joins-init c = record {
   repeating = repeating_start c.args.text.now (symbol_kinds m.PlusPlus) (read_joined c.args.text.now (Some 64) c.args.room) c.args.tokens.now c.args.from (Each (IsOperand c.args.arena.now)) c.new-found.result.items (each_none _ _ c.new-found.ensures.items) c.requires.within;
   count = omega (arith, ap length c.new-found.ensures.items);
   grown = grown_same _;
+  kept = refl;
   few = c.requires.few;
   sound = c.requires.sound;
 }
@@ -40,6 +41,7 @@ joins-preserved c =
       repeating = repeating_more c.args.text.now (symbol_kinds m.PlusPlus) (read_joined c.args.text.now (Some 64) c.args.room) c.args.tokens.now c.args.from g s.1 (Each (IsOperand c.operand.new.arena)) c.in_ok-item.next o.0 c.push.new.self.items seen (omega arith) o.3 (rw (s.3, o.4) refl);
       count = omega (arith, c.joins.invariant.count, ap length push, length-append c.joins.found.items (c.in_ok-item.item ∷ []));
       grown = grown_on c.joins.invariant.grown c.in_ok-item.ensures.grown;
+      kept = c.in_ok-item.ensures.kept ∙ c.joins.invariant.kept;
       few = c.in_ok-item.ensures.few;
       sound = c.in_ok-item.ensures.sound;
     }

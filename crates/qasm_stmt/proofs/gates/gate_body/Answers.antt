@@ -27,6 +27,7 @@ members-init c =
       at_start = omega (arith, o.1);
       room = omega (arith, c.in_ok-inside.ensures.has_room);
       grown = grown_same c.args.arena.now;
+      paid = le_refl _;
       few = (omega (arith, o.1, old.0), omega (arith, o.1, old.1), omega (arith, o.1, old.2));
       sound = c.requires.sound;
     }
@@ -60,6 +61,7 @@ members-preserved c =
       at_start = c.members.invariant.at_start;
       room = c.members.invariant.room;
       grown = grown_on c.members.invariant.grown c.in_ok-id.ensures.grown;
+      paid = omega (arith, c.members.invariant.paid, c.in_ok-id.ensures.paid);
       few = c.in_ok-id.ensures.few;
       sound = c.in_ok-id.ensures.sound;
     }
@@ -80,3 +82,8 @@ returns-clause-gives c =
     let end : c.members.at ≤ length c.args.tokens.now = g.at_end in
     let l = member_list c.members.arena c.members.statements.items g.acc (omega (arith, end, c.members.invariant.count, c.requires.cut.few)) g.sees in
     (record { statements = statements g.acc; close = e.0.at }, (l.0, l.1, e.1), omega (arith, c.members.invariant.at_start, g.from_at, e.2), e.3, inside ∙ rw (repeating_stop c.args.text.now member_kinds (read_member c.args.text.now (Some 64) (c.args.room - 1)) c.args.tokens.now c.in_ok-inside.inside g (sym c.begins_member.ensures ∙ c.members-test.false), e.4) refl)
+
+pub returns-clause-spare : goal.returns-clause-spare
+returns-clause-spare c =
+    let e = c.in_ok-close.ensures.gives in
+    omega (arith, c.members.invariant.at_start, c.members.invariant.paid, e.2)

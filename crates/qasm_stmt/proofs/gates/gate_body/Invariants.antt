@@ -2,7 +2,7 @@ use Rattle.std.proofs.Common.{◌+◌, ◌-◌, ◌≤◌, Some, length, drop}
 use Rattle.grammar_parts.specs.Reading.{take_repeated}
 use Rattle.qasm_expr.specs.Reader.{begins}
 use Rattle.qasm_grammar.specs.Reader.{read_member, member_kinds}
-use Rattle.qasm_stmt.specs.Seen.{Each, Sound, Few, Grown, IsMember}
+use Rattle.qasm_stmt.specs.Seen.{Each, Sound, Few, Grown, Paid, IsMember}
 use Rattle.qasm_expr.proofs.Loops.{Repeating}
 use Rattle.qasm_stmt.proofs.gates.gate_body.Given as goal
 
@@ -13,6 +13,7 @@ invariant-members l = record {
   at_start : l.from + 1 ≤ l.inside;
   room : 1 ≤ l.room;
   grown : Grown l.fn.arena l.arena;
+  paid : Paid l.fn.arena l.arena l.inside l.at;
   few : Few l.arena l.at;
   sound : Sound l.arena;
 }

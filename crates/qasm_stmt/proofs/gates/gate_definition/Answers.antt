@@ -1,4 +1,4 @@
-use Rattle.std.proofs.Common.{true, Some, drop, refl, le_refl, arith}
+use Rattle.std.proofs.Common.{true, Some, drop, refl, le_refl, arith, length, ap}
 use Rattle.qasm_lexer.specs.declared.token.Keyword.TheVariants as k
 use Rattle.qasm_ast.specs.Tree.{gate}
 use Rattle.qasm_grammar.specs.Reader.{name_kinds, read_keyword, read_name, read_names, read_any_gate_parameters, read_gate_body, read_gate_definition}
@@ -57,6 +57,14 @@ returns-clause-gives c =
     let params = list_on (IsName c.any_gate_parameters.new.arena) (IsName c.gate_body.new.arena) c.in_ok-params.params.items ps.0 (name_later c.in_ok-params.ensures.sound on_qubits) ps.1 in
     let qubits = list_on (IsName c.names.new.arena) (IsName c.gate_body.new.arena) c.in_ok-qubits.qubits.items qs.0 (name_later c.in_ok-qubits.ensures.sound c.in_ok-body.ensures.grown) qs.1 in
     (gate n.0 ps.0 qs.0 b.0.statements w.0.at b.0.close, gate_line c.gate_body.new.arena c.in_ok-at.at c.in_ok-body.body.close w.0.at b.0.close w.1 b.1.2 c.in_ok-name.name c.in_ok-params.params.items c.in_ok-qubits.qubits.items c.in_ok-body.body n.0 ps.0 qs.0 b.0 name params qubits b.1, omega (arith, w.2, n.2, ps.2, qs.2, b.2), b.3, rw (w.4, n.4, ps.4, qs.4, b.4) refl)
+
+pub returns-clause-spare : goal.returns-clause-spare
+returns-clause-spare c =
+    let w = c.in_ok-at.ensures.gives in
+    let n = c.in_ok-name.ensures.gives in
+    let ps = c.in_ok-params.ensures.gives in
+    let qs = c.in_ok-qubits.ensures.gives in
+    omega (arith, w.2, ap length c.in_ok-name.ensures.kept, n.2, ap length c.in_ok-params.ensures.kept, ps.2, ap length c.in_ok-qubits.ensures.kept, qs.2, c.in_ok-body.ensures.spare)
 
 pub returns-clause-grown : goal.returns-clause-grown
 returns-clause-grown c =

@@ -1,4 +1,4 @@
-use Rattle.std.proofs.Common.{◌≡◌, ◌≤◌, ◌++◌, ◌∷◌, [], Some, true, ◌||◌, length, drop, sym, ap, ◌∙◌, length-append, arith}
+use Rattle.std.proofs.Common.{◌≡◌, ◌≤◌, ◌++◌, ◌∷◌, [], Some, true, ◌||◌, length, drop, sym, ap, ◌∙◌, length-append, arith, refl}
 use Rattle.grammar_parts.specs.Reading.{heads}
 use Rattle.qasm_expr.specs.Reader.{begins}
 use Rattle.qasm_expr.proofs.Units.{pushed}
@@ -18,6 +18,7 @@ items-init c =
       listing = listing_start _ _ _ _ _ _ _ _ (each_none _ _ c.new-found.ensures.items) c.requires.within;
       count = omega (arith, ap length c.new-found.ensures.items);
       grown = grown_same _;
+      kept = refl;
       few = c.requires.few;
       sound = c.requires.sound;
     }
@@ -61,6 +62,7 @@ items-preserved c =
       listing = listing_more _ _ _ _ _ g begun (Each (IsOperand c.operand.new.arena)) c.in_ok-item.next r.0 c.push.new.self.items seen on r.3 r.4 (sym c.sees.ensures.value ∙ c.if-not-sees.false);
       count = omega (arith, ap length push, length-append c.items.found.items (c.in_ok-item.item ∷ []), on, c.items.invariant.count);
       grown = grown_on c.items.invariant.grown c.in_ok-item.ensures.grown;
+      kept = c.in_ok-item.ensures.kept ∙ c.items.invariant.kept;
       few = (omega (arith, few.0), omega (arith, few.1), omega (arith, few.2));
       sound = c.in_ok-item.ensures.sound;
     }

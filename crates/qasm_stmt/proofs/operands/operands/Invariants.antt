@@ -1,4 +1,4 @@
-use Rattle.std.proofs.Common.{◌+◌, ◌-◌, ◌≤◌, Some, length, drop}
+use Rattle.std.proofs.Common.{◌≡◌, ◌+◌, ◌-◌, ◌≤◌, Some, length, drop}
 use Rattle.qasm_grammar.specs.Reader.{read_operand, operand_kinds}
 use Rattle.qasm_expr.specs.Reader.{read_listed}
 use Rattle.qasm_stmt.specs.Seen.{Each, Sound, Few, Grown, IsOperand}
@@ -10,6 +10,7 @@ invariant-items l = record {
   listing : Listing l.text operand_kinds (read_operand l.text (Some 64) l.room) l.tokens (Each (IsOperand l.arena)) l.from (read_listed l.text operand_kinds l.filled (read_operand l.text (Some 64) l.room) (drop l.from l.tokens)) l.first l.found.items l.at;
   count : length l.found.items + l.from ≤ l.at;
   grown : Grown l.fn.arena l.arena;
+  kept : l.arena.stmts.items ≡ l.fn.arena.stmts.items;
   few : Few l.arena l.at;
   sound : Sound l.arena;
 }

@@ -1,4 +1,4 @@
-use Rattle.std.proofs.Common.{◌≤◌, ◌<◌, ◌++◌, ◌∷◌, [], List, Vec, Global, false, Some, length, drop, sym, ap, ◌∙◌, length-drop, length-append, arith}
+use Rattle.std.proofs.Common.{◌≤◌, ◌<◌, ◌++◌, ◌∷◌, [], List, Vec, Global, false, Some, length, drop, sym, ap, ◌∙◌, length-drop, length-append, arith, refl}
 use Rattle.std.proofs.lemmas.Result.{err_from_is_err_and}
 use Rattle.qasm_ast.specs.declared.expr.TypeRef.{TypeRef}
 use Rattle.qasm_ast.specs.declared.stmt.Declared.{Declared}
@@ -19,6 +19,7 @@ items-init c =
       listing = listing_start c.args.text.now parameter_kinds (read_parameter c.args.text.now (Some 64) c.args.room) c.args.tokens.now c.args.from (Each (IsParameter c.args.arena.now)) false c.new-found.result.items (each_none _ _ c.new-found.ensures.items) c.requires.within;
       count = omega (arith, ap length c.new-found.ensures.items);
       grown = grown_same _;
+      kept = refl;
       few = c.requires.few;
       sound = c.requires.sound;
     }
@@ -59,6 +60,7 @@ items-preserved c =
       listing = listing_more c.args.text.now parameter_kinds (read_parameter c.args.text.now (Some 64) c.args.room) c.args.tokens.now c.args.from g begun (Each (IsParameter c.parameter.new.arena)) c.in_ok-item.next r.0 c.push.new.self.items seen on r.3 r.4 (sym c.sees.ensures.value ∙ c.if-not-sees.false);
       count = omega (arith, count, ap length push, length-append c.items.found.items (c.in_ok-item.item ∷ []), on);
       grown = grown_on c.items.invariant.grown c.in_ok-item.ensures.grown;
+      kept = c.in_ok-item.ensures.kept ∙ c.items.invariant.kept;
       few = (omega (arith, few.0), omega (arith, few.1), omega (arith, few.2));
       sound = c.in_ok-item.ensures.sound;
     }

@@ -16,8 +16,10 @@ use Rattle.qasm_stmt.specs.Seen.{Each, IsType, IsParameter, IsTurns, IsStatement
 use Rattle.qasm_stmt.proofs.Growing.{each_none, grown_same, grown_on, each_on, each_push, if_both_on, tree_later, type_later, name_later, parameter_later, statement_later, statements_later}
 use Rattle.qasm_stmt.proofs.Showing.{pushed_statement, pushed_sound}
 use Rattle.qasm_expr.proofs.Loops.{repeating_start, repeating_stop, repeating_err, repeating_more}
+use Rattle.qasm_stmt.proofs.Nesting.{stmt_open, block_shut, block_inside, body_braced, body_alone, behind_open, behind_alone, behind_else, opened_list, one_statement}
+use Rattle.qasm_stmt.proofs.Filling.{goes_on}
+use Rattle.qasm_stmt.proofs.Paying.{pushed_few, pushed_paid, kept_spare}
 use Rattle.qasm_stmt.proofs.Lines.{word_heads}
-use Rattle.qasm_stmt.proofs.Nesting.{stmt_open, block_shut, block_inside, body_braced, body_alone, behind_open, behind_alone, behind_else, opened_list, one_statement, pushed_few}
 use Rattle.qasm_stmt.proofs.Compound.{close_same, turns_later, list_on, branch_line, while_line, subroutine_line, range_line, set_line}
 use Rattle.qasm_stmt.proofs.statements.+stmt.Goals.{conditional-then-taken-via-then-taken, conditional-then-taken-via-else-taken+then-not-sees_word, for_loop-in-Range, for_loop-in-Set}
 use Rattle.qasm_stmt.proofs.statements.+stmt.Goals as goal
@@ -46,6 +48,12 @@ block-returns-clause-gives t c =
     let ss = c.in_ok-statements.ensures.gives in
     let e = c.in_ok-close.ensures.gives in
     (record { statements = opened_statements ss.0; close = e.0.at }, (ss.1, e.1), omega (arith, o.1, ss.2, e.2), e.3, inside ∙ rw (ss.4, e.4) refl)
+
+pub block-returns-clause-spare : goal.block-returns-clause-spare
+block-returns-clause-spare t c =
+    let o = c.in_ok-inside.ensures.passes in
+    let e = c.in_ok-close.ensures.gives in
+    omega (arith, o.1, c.in_ok-statements.ensures.paid, e.2)
 
 pub body-returns-in_err-found-clause-gives : goal.body-returns-in_err-found-clause-gives
 body-returns-in_err-found-clause-gives t c =
@@ -103,6 +111,11 @@ conditional-returns-then-taken-clause-gives t c =
     ] in
     (without_else e.0 w.0.at b.0, (branch_line c.body.new.arena c.in_ok-at.at c.close_or-close.result w.0.at (close_or b.0.close w.0.at) w.1 shut c.in_ok-test.test c.in_ok-taken.taken.statements.items c.new.result.items e.0 b.0.statements no_statement test b.1.0 empty, refl), omega (arith, w.2, e.2, b.2), b.3, rw (w.4, e.4, b.4) last)
 
+pub conditional-returns-then-taken-clause-spare : goal.conditional-returns-then-taken-clause-spare
+conditional-returns-then-taken-clause-spare t c =
+    let e = c.in_ok-test.ensures.gives in
+    omega (arith, c.in_ok-at.ensures.next, ap length c.in_ok-test.ensures.kept, e.2, c.in_ok-taken.ensures.paid)
+
 pub conditional-returns-in_err-other-clause-gives : goal.conditional-returns-in_err-other-clause-gives
 unfolding read_conditional
 conditional-returns-in_err-other-clause-gives t c =
@@ -128,6 +141,11 @@ conditional-returns-clause-gives t c =
     let test = tree_later c.in_ok-test.ensures.sound (grown_on c.in_ok-taken.ensures.grown c.in_ok-other.ensures.grown) c.in_ok-test.test e.0 e.1 in
     let taken = statements_later c.in_ok-taken.ensures.sound c.in_ok-other.ensures.grown c.in_ok-taken.taken.statements.items b.0.statements b.1.0 in
     (with_else e.0 w.0.at b.0 d.0, (branch_line c.body-2.new.arena c.in_ok-at.at c.close_or-close-2.result w.0.at (close_or d.0.close (close_or b.0.close w.0.at)) w.1 shut c.in_ok-test.test c.in_ok-taken.taken.statements.items c.in_ok-other.other.statements.items e.0 b.0.statements d.0.statements test taken d.1.0, d.1.1), omega (arith, w.2, e.2, b.2, d.2), d.3, rw (w.4, e.4, b.4) (last ∙ rw d.4 refl))
+
+pub conditional-returns-clause-spare : goal.conditional-returns-clause-spare
+conditional-returns-clause-spare t c =
+    let e = c.in_ok-test.ensures.gives in
+    omega (arith, c.in_ok-at.ensures.next, ap length c.in_ok-test.ensures.kept, e.2, c.in_ok-taken.ensures.paid, c.in_ok-other.ensures.paid)
 
 pub while_loop-returns-in_err-at-clause-gives : goal.while_loop-returns-in_err-at-clause-gives
 unfolding read_while_loop
@@ -156,6 +174,11 @@ while_loop-returns-clause-gives t c =
     let shut = c.close_or-close.ensures ∙ close_same c.in_ok-turn.turn.close b.0.close c.in_ok-at.at w.0.at b.1.2 w.1 in
     let test = tree_later c.in_ok-test.ensures.sound c.in_ok-turn.ensures.grown c.in_ok-test.test e.0 e.1 in
     ((while e.0 b.0.statements w.0.at (close_or b.0.close w.0.at), b.0.is_open), (while_line c.body.new.arena c.in_ok-at.at c.close_or-close.result w.0.at (close_or b.0.close w.0.at) w.1 shut c.in_ok-test.test c.in_ok-turn.turn.statements.items e.0 b.0.statements test b.1.0, b.1.1), omega (arith, w.2, e.2, b.2), b.3, rw (w.4, e.4, b.4) refl)
+
+pub while_loop-returns-clause-spare : goal.while_loop-returns-clause-spare
+while_loop-returns-clause-spare t c =
+    let e = c.in_ok-test.ensures.gives in
+    omega (arith, c.in_ok-at.ensures.next, ap length c.in_ok-test.ensures.kept, e.2, c.in_ok-turn.ensures.paid)
 
 pub for_loop-returns-in_err-at-clause-gives : goal.for_loop-returns-in_err-at-clause-gives
 unfolding read_for_loop
@@ -220,6 +243,14 @@ for_loop-returns-clause-gives t c =
       | for_loop-in-Set v ↦ subst (λ z. IsOpenLine c.body.new.arena (record { kind = z; at = c.in_ok-at.at; close = c.close_or-close.result }, c.in_ok-turn.turn.is_open) (for_of s.0 n.0 r.0 b.0 w.0.at)) (sym v.kind-is) (set_line c.body.new.arena c.in_ok-at.at c.close_or-close.result w.0.at w.1 c.in_ok-ty.ty c.in_ok-name.name c.in_ok-turn.turn.statements.items c.in_ok-turn.turn.is_open s.0 n.0 b.0 shut b.1.1 type name b.1.0 v.in-Set.members r.0 (subst (λ z. IsTurns c.body.new.arena z r.0) v.in-Set.is over))
     ] in
     (for_of s.0 n.0 r.0 b.0 w.0.at, line, omega (arith, w.2, s.2, n.2, i.2, r.2, b.2), b.3, rw (w.4, s.4, n.4, i.4, r.4, b.4) refl)
+
+pub for_loop-returns-clause-spare : goal.for_loop-returns-clause-spare
+for_loop-returns-clause-spare t c =
+    let s = c.in_ok-ty.ensures.gives in
+    let n = c.in_ok-name.ensures.gives in
+    let i = c.in_ok-next.ensures.gives in
+    let r = c.in_ok-over.ensures.gives in
+    omega (arith, c.in_ok-at.ensures.next, ap length c.in_ok-ty.ensures.kept, s.2, ap length c.in_ok-name.ensures.kept, n.2, i.2, ap length c.in_ok-over.ensures.kept, r.2, c.in_ok-turn.ensures.paid)
 
 pub for_loop-returns-clause-grown : goal.for_loop-returns-clause-grown
 for_loop-returns-clause-grown t c =
@@ -339,6 +370,14 @@ subroutine_definition-returns-clause-gives t c =
     let type = if_both_on (IsType c.result.new.arena) (IsType c.block.new.arena) (type_later c.in_ok-result.ensures.sound c.in_ok-body.ensures.grown) c.in_ok-result.result r.0 r.1 in
     (subroutine n.0 ps.0 r.0 b.0.statements w.0.at b.0.close, subroutine_line c.block.new.arena c.in_ok-at.at c.in_ok-body.body.close w.0.at b.0.close w.1 b.1.1 c.in_ok-name.name c.in_ok-params.params.items c.in_ok-result.result c.in_ok-body.body.statements.items n.0 ps.0 r.0 b.0.statements name params type b.1.0, omega (arith, w.2, n.2, ps.2, r.2, b.2), b.3, rw (w.4, n.4, ps.4, r.4, b.4) refl)
 
+pub subroutine_definition-returns-clause-spare : goal.subroutine_definition-returns-clause-spare
+subroutine_definition-returns-clause-spare t c =
+    let w = c.in_ok-at.ensures.gives in
+    let n = c.in_ok-name.ensures.gives in
+    let ps = c.in_ok-params.ensures.gives in
+    let r = c.in_ok-result.ensures.gives in
+    omega (arith, w.2, ap length c.in_ok-name.ensures.kept, n.2, ap length c.in_ok-params.ensures.kept, ps.2, ap length c.in_ok-result.ensures.kept, r.2, c.in_ok-body.ensures.spare)
+
 pub subroutine_definition-returns-clause-grown : goal.subroutine_definition-returns-clause-grown
 subroutine_definition-returns-clause-grown t c =
     grown_on c.in_ok-name.ensures.grown (grown_on c.in_ok-params.ensures.grown (grown_on c.in_ok-result.ensures.grown c.in_ok-body.ensures.grown))
@@ -356,6 +395,11 @@ unlisted-returns-then-begins_declaration-clause-gives t c =
     let s = c.in_ok-found.ensures.gives in
     ((s.0, false), (s.1, refl), s.2, s.3, opened ∙ rw (sym c.begins_declaration.ensures ∙ c.if-begins_declaration.true, s.4) refl)
 
+pub unlisted-returns-then-begins_declaration-clause-spare : goal.unlisted-returns-then-begins_declaration-clause-spare
+unlisted-returns-then-begins_declaration-clause-spare t c =
+    let s = unlisted-returns-then-begins_declaration-clause-gives t c in
+    c.in_ok-found.ensures.spare (goes_on c.args.tokens.now c.args.from c.in_ok-found.next (stmt_moves c.args.text.now (Some 64) c.args.room (drop c.args.from c.args.tokens.now) s.0 (drop c.in_ok-found.next c.args.tokens.now) s.4))
+
 pub unlisted-returns-in_err-found-2-clause-gives : goal.unlisted-returns-in_err-found-2-clause-gives
 unfolding read_stmt_at
 unlisted-returns-in_err-found-2-clause-gives t c =
@@ -369,6 +413,11 @@ unlisted-returns-then-begins_action-clause-gives t c =
     let s = c.in_ok-found-2.ensures.gives in
     ((s.0, false), (s.1, refl), s.2, s.3, opened ∙ rw (sym c.begins_declaration.ensures ∙ c.if-begins_declaration.false, sym c.begins_action.ensures ∙ c.if-begins_action.true, s.4) refl)
 
+pub unlisted-returns-then-begins_action-clause-spare : goal.unlisted-returns-then-begins_action-clause-spare
+unlisted-returns-then-begins_action-clause-spare t c =
+    let s = unlisted-returns-then-begins_action-clause-gives t c in
+    kept_spare c.args.arena.now c.action.new.arena c.args.from c.in_ok-found-2.next c.in_ok-found-2.ensures.kept (goes_on c.args.tokens.now c.args.from c.in_ok-found-2.next (stmt_moves c.args.text.now (Some 64) c.args.room (drop c.args.from c.args.tokens.now) s.0 (drop c.in_ok-found-2.next c.args.tokens.now) s.4))
+
 pub unlisted-returns-clause-gives : goal.unlisted-returns-clause-gives
 unfolding read_stmt_at
 unlisted-returns-clause-gives t c =
@@ -379,9 +428,13 @@ stmt-returns-clause-gives t c =
     let s = c.in_ok-found.ensures.gives in
     (s.0, (pushed_statement c.unlisted.new.arena c.push.new.arena c.in_ok-found.found c.in_ok-id.id c.in_ok-found.ensures.sound c.in_ok-id.ensures.pushed s.0.0 s.1.0, s.1.1), s.2, s.3, s.4)
 
+pub stmt-returns-clause-paid : goal.stmt-returns-clause-paid
+stmt-returns-clause-paid t c =
+    pushed_paid c.args.arena.now c.unlisted.new.arena c.push.new.arena c.in_ok-found.found c.in_ok-id.id c.args.from c.in_ok-found.next c.in_ok-id.ensures.pushed c.in_ok-found.ensures.spare
+
 pub stmt-returns-clause-few : goal.stmt-returns-clause-few
 stmt-returns-clause-few t c =
-    pushed_few c.unlisted.new.arena c.push.new.arena c.in_ok-found.found c.in_ok-id.id c.in_ok-found.next c.in_ok-id.ensures.pushed c.in_ok-found.ensures.few
+    pushed_few c.args.arena.now c.unlisted.new.arena c.push.new.arena c.in_ok-found.found c.in_ok-id.id c.args.from c.in_ok-found.next c.in_ok-id.ensures.pushed c.in_ok-found.ensures.spare c.requires.few c.in_ok-found.ensures.few
 
 pub stmt-returns-clause-sound : goal.stmt-returns-clause-sound
 stmt-returns-clause-sound t c =
@@ -393,6 +446,7 @@ stmts-stmts-init t c =
       repeating = repeating_start c.args.text.now stmt_kinds (read_stmt c.args.text.now (Some 64) c.args.room) c.args.tokens.now c.args.from (Each (λ id s. IsStatement c.args.arena.now id s.0)) c.new-found.result.items (each_none _ _ c.new-found.ensures.items) c.requires.within;
       count = omega (arith, ap length c.new-found.ensures.items);
       grown = grown_same c.args.arena.now;
+      paid = le_refl _;
       few = c.requires.few;
       sound = c.requires.sound;
     }
@@ -422,6 +476,7 @@ stmts-stmts-preserved t c =
       repeating = repeating_more c.args.text.now stmt_kinds (read_stmt c.args.text.now (Some 64) c.args.room) c.args.tokens.now c.args.from g (sym c.begins_stmt.ensures ∙ c.stmts-test.true) (Each (λ id s. IsStatement c.stmt.new.arena id s.0)) c.in_ok-id.next r.0 c.push.new.self.items seen on r.3 r.4;
       count = omega (arith, ap length push, length-append c.stmts.found.items (c.in_ok-id.id ∷ []), on, c.stmts.invariant.count);
       grown = grown_on c.stmts.invariant.grown c.in_ok-id.ensures.grown;
+      paid = omega (arith, c.stmts.invariant.paid, c.in_ok-id.ensures.paid);
       few = c.in_ok-id.ensures.few;
       sound = c.in_ok-id.ensures.sound;
     }

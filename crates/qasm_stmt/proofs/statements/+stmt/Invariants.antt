@@ -1,6 +1,6 @@
 use Rattle.std.proofs.Common.{◌+◌, ◌-◌, ◌*◌, ◌≤◌, Some, length, drop}
 use Rattle.qasm_grammar.specs.Reader.{read_stmt, read_all_stmts, stmt_kinds}
-use Rattle.qasm_stmt.specs.Seen.{Each, Sound, Few, Grown, IsStatement}
+use Rattle.qasm_stmt.specs.Seen.{Each, Sound, Few, Grown, Paid, IsStatement}
 use Rattle.qasm_expr.proofs.Loops.{Repeating}
 use Rattle.qasm_stmt.proofs.statements.+stmt.Given as goal
 
@@ -42,6 +42,7 @@ invariant-stmts-stmts l = record {
   repeating : Repeating l.text stmt_kinds (read_stmt l.text (Some 64) l.room) l.tokens (Each (λ id s. IsStatement l.arena id s.0)) l.from (read_all_stmts l.text (Some 64) l.room (drop l.from l.tokens)) l.found.items l.at;
   count : length l.found.items + l.from ≤ l.at;
   grown : Grown l.fn.arena l.arena;
+  paid : Paid l.fn.arena l.arena l.from l.at;
   few : Few l.arena l.at;
   sound : Sound l.arena;
 }
