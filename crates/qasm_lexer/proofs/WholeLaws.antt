@@ -40,6 +40,11 @@ digits_go_on base (c ∷ []) h = and_first (is_digit_in base c) _ h
 digits_go_on base (c ∷ d ∷ cs) h =
     goes_digit base c d cs (and_first (is_digit_in base c) _ h) ∙ digits_go_on base (d ∷ cs) (and_second (is_digit_in base c) _ h)
 
+-- digits alone are a numeral
+pub digits_numeral : (cs : List ℕ) → AreDigits cs → is_numeral 10 cs ≡ true
+digits_numeral [] are = absurd (omega (arith, are.some))
+digits_numeral (d ∷ ds) are = and_true (and_first (is_digit_in 10 d) _ are.each) (digits_go_on 10 ds (and_second (is_digit_in 10 d) _ are.each))
+
 -- the base of a letter
 abbrev letter_base : ℕ → ℕ
 letter_base c = if (c == 98) || (c == 66) then 2 else (if c == 111 then 8 else 16)
@@ -166,10 +171,6 @@ module _ {cs digits rest front after : List ℕ} {digit : ℕ} (whole : WholeAt 
   numeral_short (d ∷ ds) more e n =
       let short = longest_on 10 front after ds more (cons_tail (sym at.split ∙ e)) at.each at.stops (numeral_parts 10 d ds n).1 in
       omega (arith, short)
-
-  digits_numeral : (other : List ℕ) → AreDigits other → is_numeral 10 other ≡ true
-  digits_numeral [] are = absurd (omega (arith, are.some))
-  digits_numeral (d ∷ ds) are = and_true (and_first (is_digit_in 10 d) _ are.each) (digits_go_on 10 ds (and_second (is_digit_in 10 d) _ are.each))
 
   based_not : (other more other_digits : List ℕ) (other_letter : ℕ) (kind : Base) → cs ≡ other ++ more → IsPrefix kind (48 ∷ other_letter ∷ []) → other ≡ 48 ∷ other_letter ∷ other_digits → is_numeral (radix kind) other_digits ≡ true → ⊥
   based_not other more [] other_letter kind e p split n = false≢true n

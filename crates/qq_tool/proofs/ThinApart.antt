@@ -9,7 +9,7 @@ use Rattle.std.proofs.lemmas.Bool.Decides.{nat_tests}
 use Rattle.std.proofs.lemmas.List.Sums.{length-filter, count_by-le-length}
 use Rattle.std.proofs.lemmas.Fmt.{digits_decimal, digits_value-decimal, decimal_nonempty}
 use Rattle.qasm_lexer.specs.Characters.{is_blank, is_digit_in, continues_name}
-use Rattle.qasm_lexer.specs.Spelling.{IsNameLike, IsWord, IsWhole, Decimal, IsTooLarge, is_numeral, goes_on}
+use Rattle.qasm_lexer.specs.Spelling.{IsNameLike, IsWord, IsWhole, Decimal, IsTooLarge, is_numeral}
 use Rattle.qasm_lexer.specs.Scan.{StopsAt}
 use Rattle.qasm_lexer.specs.Tokens.{opens_version}
 use Rattle.qasm_lexer.specs.Tables.{word_spelling, mark_spelling}
@@ -19,7 +19,7 @@ use Rattle.qasm_lexer.specs.declared.token.Keyword.TheVariants as k
 use Rattle.qasm_lexer.specs.declared.token.Mark.{Mark}
 use Rattle.qasm_lexer.specs.declared.token.Mark.TheVariants as m
 use Rattle.qasm_lexer.proofs.Passing.{and_first, and_second, and_true}
-use Rattle.qasm_lexer.proofs.Numerals.{goes_digit}
+use Rattle.qasm_lexer.proofs.WholeLaws.{digits_numeral}
 use Rattle.qasm_lexer.proofs.NumberFinds.{digits_number}
 use Rattle.qasm_grammar.specs.Parts.{same}
 use Rattle.qq_tool.specs.declared.thin.ThinLine.{ThinLine}
@@ -49,15 +49,6 @@ digits_stop : (ds behind : List ℕ) → 0 < length ds → HasDigits ds → Stop
 digits_stop [] behind some digits = absurd (omega (arith, some))
 digits_stop (d ∷ ds) behind some digits = digit_stops d (digits 0 (omega arith))
 
-digits_go_on : (ds : List ℕ) → list_all (is_digit_in 10) ds ≡ true → goes_on 10 ds ≡ true
-digits_go_on [] each = refl
-digits_go_on (d ∷ []) each = and_first (is_digit_in 10 d) _ each
-digits_go_on (d ∷ c ∷ ds) each = goes_digit 10 d c ds (and_first (is_digit_in 10 d) _ each) ∙ digits_go_on (c ∷ ds) (and_second (is_digit_in 10 d) _ each)
-
-digits_numeral : (ds : List ℕ) → 0 < length ds → list_all (is_digit_in 10) ds ≡ true → is_numeral 10 ds ≡ true
-digits_numeral [] some each = absurd (omega (arith, some))
-digits_numeral (d ∷ ds) some each = and_true (and_first (is_digit_in 10 d) _ each) (digits_go_on ds (and_second (is_digit_in 10 d) _ each))
-
 -- ---- small numbers
 
 small_wide : (n : ℕ) → n < 10000 → n < 2 ^ 64
@@ -79,7 +70,7 @@ number_whole n small = record {
   digits = decimal n;
   split = refl;
   marked = refl;
-  numeral = digits_numeral (decimal n) (number_some n small) (number_all n small);
+  numeral = digits_numeral (decimal n) (record { some = number_some n small; each = number_all n small });
   value_is = sym (digits_number (decimal n) (number_all n small) ∙ digits_value-decimal by_index n (small_wide n small));
 }
 
