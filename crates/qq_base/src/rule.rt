@@ -27,9 +27,9 @@ pub enum Rule {
     NestingDeep,
     /// No program goes on so.
     Syntax,
-    /// A version other than 3.0, or a version behind the first statement.
+    /// A version other than 3.0, or `OPENQASM` behind the first token, where a statement might begin.
     Version,
-    /// A word stands that the profile leaves out.
+    /// A word that the profile leaves out, the mark `#`, or `@` where a statement might begin.
     LeftOut,
     /// The included file is not `stdgates.inc`.
     Include,
