@@ -2,11 +2,7 @@
 # Times `check` on texts of one, two and four MiB that repeat one piece: brackets that never close or never open,
 # statements, long lists, and 64 levels of each construct over and over. Twice the text should take about twice
 # the time. It is a benchmark and no part of the gate.
-set -eu
-cd "$(dirname "$0")/.."
-make --no-print-directory build
-folder=$(mktemp -d)
-trap 'rm -rf "$folder"' EXIT
+. "$(dirname "$0")/setup.sh"
 
 # A front, as many copies of a piece as fit into so many bytes, and an end.
 repeated() {

@@ -1,11 +1,7 @@
 #!/usr/bin/env bash
 # Times the compilation of thin programs of 1,250, 2,500, 5,000 and 10,000 lines: twice the lines should
 # take about twice the time. It is a benchmark and no part of the gate.
-set -eu
-cd "$(dirname "$0")/.."
-make --no-print-directory build
-folder=$(mktemp -d)
-trap 'rm -rf "$folder"' EXIT
+. "$(dirname "$0")/setup.sh"
 
 # A program of so many statements on 1,024 qubits and 4,096 bits.
 program() {
