@@ -14,8 +14,9 @@ use Rattle.qasm_ast.specs.declared.stmt.StmtKind.TheVariants as s
 use Rattle.qasm_ast.specs.Tree.{Tree, tree_at, tree_of, Statement, statements_at, stmt_of, seen_stmt, stmt_at, statement_of}
 use Rattle.qasm_ast.specs.Level.{level_of, stmt_level}
 use Rattle.qasm_ast.specs.Shallow.{body_level, kind_level, stmt_kind_level, StmtNames, ExprLevels, StmtLevels}
-use Rattle.qasm_ast.specs.Whole.{Source, IsProgram, IsStmt, ExprsFit, StmtsFit, top_level, depth}
-use Rattle.qasm_ast.proofs.Seen.{kind_seen, stmt_seen, in_range}
+use Rattle.qasm_ast.specs.Whole.{Source, IsProgram, IsStmt, ExprsFit, StmtsFit}
+use Rattle.qasm_ast.specs.View.{tree_in, statement_in, depth}
+use Rattle.qasm_ast.proofs.Seen.{kind_seen, body_seen, stmt_seen, in_range}
 use Rattle.qasm_ast.proofs.Steps.{found_at, tree_at-enough, tree_of-node}
 
 below_or_last : (j n : ℕ) → j < suc n → (j < n) ⊎ (j ≡ n)
@@ -96,6 +97,12 @@ module _ (names : List (List ℕ)) (exprs : List Expr) (stmts : List Stmt) (fits
   pub statement_of-node : (j : ℕ) (x : Stmt) → slice_get stmts j ≡ Some x → statement_of names exprs stmts j ≡ stmt_of names (tree_of names exprs) (stmt_at names (tree_of names exprs) stmts j) x.kind x.at x.close
   statement_of-node = node
 
+  -- the tree of a statement, by the trees of the statements in its bodies
+  pub statement_of-unfolds : (j : ℕ) (x : Stmt) → j < length stmts → slice_get stmts j ≡ Some x → statement_of names exprs stmts j ≡ stmt_of names (tree_of names exprs) (statement_of names exprs stmts) x.kind x.at x.close
+  statement_of-unfolds j x le found =
+      node j x found
+      ∙ stmt_same names (tree_of names exprs) (statement_of names exprs stmts) (at_steps j) j (λ k lt. enough j k lt (omega arith)) (length names) (length exprs) x.kind x.at x.close (in_range (length names) exprs stmts j x.kind (fits j x found))
+
 pub no_stmt_levels : (exprs : List Expr) (stmts : List Stmt) (levels : List ℕ) → levels ≡ [] → StmtLevels exprs stmts levels 0
 no_stmt_levels exprs stmts levels e = record { count = ap length e; low = subst (All (λ k. k ≤ 65)) (sym e) (λ k d lt. absurd (omega arith)); seen = λ names fit fits j lt. absurd (omega arith) }
 
@@ -118,15 +125,8 @@ more_stmt_levels exprs stmts trees levels n l x new known old found lt found_lev
 
 -- ---- the top level
 
-pub top_seen : (p : Source) (levels : List ℕ) (ids : List StmtId) → ((j : ℕ) → j < length p.stmts → slice_index levels j ≡ min 65 (stmt_level (statement_of p.names p.exprs p.stmts j))) → All (IsStmt (length p.stmts)) ids → min 65 (body_level (slice_index levels) ids) ≡ min 65 (top_level p ids)
-top_seen p levels [] seen a = refl
-top_seen p levels (id ∷ ids) seen a =
-    let here : slice_index levels id.0 ≡ min 65 (stmt_level (statement_of p.names p.exprs p.stmts id.0)) = seen id.0 (All-head (IsStmt (length p.stmts)) id ids a) in
-    let later : min 65 (body_level (slice_index levels) ids) ≡ min 65 (top_level p ids) = top_seen p levels ids seen (All-tail (IsStmt (length p.stmts)) id ids a) in
-    omega arith
-
 pub depth_seen : (p : Source) (exprs : List Expr) (stmts : List Stmt) (levels read : List ℕ) (found : ℕ) → exprs ≡ p.exprs → stmts ≡ p.stmts → IsProgram p → StmtLevels exprs stmts levels (length stmts) → read ≡ levels → found ≡ min 65 (body_level (slice_index read) p.top) → found ≡ depth p
 depth_seen p exprs stmts levels read found e f whole known g h =
     let at_exprs : StmtLevels p.exprs stmts levels (length stmts) = subst (λ es. StmtLevels es stmts levels (length stmts)) e known in
     let at_stmts : StmtLevels p.exprs p.stmts levels (length p.stmts) = subst (λ ss. StmtLevels p.exprs ss levels (length ss)) f at_exprs in
-    h ∙ ap (λ l. min 65 (body_level (slice_index l) p.top)) g ∙ top_seen p levels p.top (at_stmts.seen p.names whole.exprs_fit whole.stmts_fit) whole.top_fits.each
+    h ∙ ap (λ l. min 65 (body_level (slice_index l) p.top)) g ∙ body_seen p.names (tree_in p) (λ k. 0) 0 (λ k lt. absurd (omega arith)) (statement_in p) (slice_index levels) (length p.stmts) (at_stmts.seen p.names whole.exprs_fit whole.stmts_fit) p.top whole.top_fits.each

@@ -5,3 +5,5 @@ pub mod Levels
 pub mod Staying
 pub mod Fitting
 pub mod Sample
+pub mod Naming
+pub mod Nodes

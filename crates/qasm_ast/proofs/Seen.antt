@@ -134,7 +134,7 @@ module _ (names : List (List ℕ)) (sub : ℕ → Tree) (h : ℕ → ℕ) (n : �
   mods_seen (m.Ctrl id place ∷ mods) x y a e = omega (arith, mods_seen mods x y (All-tail (ModifierFits n) _ mods a) e, width_seen id (All-head (ModifierFits n) (m.Ctrl id place) mods a))
 
   module _ (body : ℕ → Statement) (hb : ℕ → ℕ) (count : ℕ) (seen_body : (k : ℕ) → k < count → hb k ≡ min 65 (stmt_level (body k))) where
-    body_seen : (ids : List StmtId) → All (IsStmt count) ids → min 65 (body_level hb ids) ≡ min 65 (stmts_level (statements_at names sub body ids))
+    pub body_seen : (ids : List StmtId) → All (IsStmt count) ids → min 65 (body_level hb ids) ≡ min 65 (stmts_level (statements_at names sub body ids))
     body_seen [] a = refl
     body_seen (id ∷ ids) a = omega (arith, seen_body id.0 (All-head (IsStmt count) id ids a), body_seen ids (All-tail (IsStmt count) id ids a))
 

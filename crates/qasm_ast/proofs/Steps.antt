@@ -101,3 +101,10 @@ module _ (names : List (List ℕ)) (exprs : List Expr) (fit : ExprsFit (length n
   pub tree_of-node : (j : ℕ) (x : Expr) → slice_get exprs j ≡ Some x → tree_of names exprs j ≡ node_of names (tree_at names exprs j) x.kind x.at
   unfolding tree_of
   tree_of-node j x found = ap (seen_node names (tree_at names exprs j)) found
+
+  -- by their trees, in which no step is counted
+  pub tree_of-unfolds : (j : ℕ) (x : Expr) → j < length exprs → slice_get exprs j ≡ Some x → tree_of names exprs j ≡ node_of names (tree_of names exprs) x.kind x.at
+  tree_of-unfolds j x le found =
+      tree_of-node j x found
+      ∙ subst (λ ns. node_of ns (tree_at names exprs j) x.kind x.at ≡ node_of names (tree_of names exprs) x.kind x.at) (append-nil names)
+      (node_same names [] (tree_of names exprs) (tree_at names exprs j) j (λ k lt. tree_at-enough j k lt (omega arith)) x.kind x.at (fit j x (omega arith) found))

@@ -1,5 +1,5 @@
--- The level of one node, from the levels of the nodes that it names. The levels of trees are those of
--- `Level`; these are for nodes as they lie in lists.
+-- For private contracts alone: the level of one node, from the levels of the nodes that it names. The levels of trees
+-- are those of `Level`; these are for nodes as they lie in lists.
 use Rattle.std.specs.Prelude.{◌≡◌, ℕ, suc, ◌<◌, ◌≤◌, min, max, List, [], ◌∷◌, length, slice_index, All, Option}
 use Rattle.qasm_ast.specs.declared.expr.ExprId.{ExprId}
 use Rattle.qasm_ast.specs.declared.expr.ExprKind.{ExprKind}

@@ -202,11 +202,63 @@ mutual
     no_statement : Statements
     a_statement : Statement → Statements → Statements
 
+-- the place of a statement
+abbrev pub place_of_statement : Statement → Span
+place_of_statement (include place close) = place
+place_of_statement (qubits _ _ place close) = place
+place_of_statement (variable _ _ _ place close) = place
+place_of_statement (constant _ _ _ place close) = place
+place_of_statement (output _ _ place close) = place
+place_of_statement (alias _ _ place close) = place
+place_of_statement (gate _ _ _ _ place close) = place
+place_of_statement (subroutine _ _ _ _ place close) = place
+place_of_statement (gate_call _ _ _ _ place close) = place
+place_of_statement (barrier _ place close) = place
+place_of_statement (reset _ place close) = place
+place_of_statement (measurement _ _ place close) = place
+place_of_statement (assign _ _ _ place close) = place
+place_of_statement (invoke _ place close) = place
+place_of_statement (branch _ _ _ place close) = place
+place_of_statement (while _ _ place close) = place
+place_of_statement (for_range _ _ _ _ _ _ place close) = place
+place_of_statement (for_set _ _ _ _ place close) = place
+place_of_statement (break place close) = place
+place_of_statement (continue place close) = place
+place_of_statement (end place close) = place
+place_of_statement (give _ place close) = place
+place_of_statement cut_off = record { line = 0; column = 0 }
+
+-- the place of its closing brace, or its own where it has none
+abbrev pub close_of_statement : Statement → Span
+close_of_statement (include place close) = close
+close_of_statement (qubits _ _ place close) = close
+close_of_statement (variable _ _ _ place close) = close
+close_of_statement (constant _ _ _ place close) = close
+close_of_statement (output _ _ place close) = close
+close_of_statement (alias _ _ place close) = close
+close_of_statement (gate _ _ _ _ place close) = close
+close_of_statement (subroutine _ _ _ _ place close) = close
+close_of_statement (gate_call _ _ _ _ place close) = close
+close_of_statement (barrier _ place close) = close
+close_of_statement (reset _ place close) = close
+close_of_statement (measurement _ _ place close) = close
+close_of_statement (assign _ _ _ place close) = close
+close_of_statement (invoke _ place close) = close
+close_of_statement (branch _ _ _ place close) = close
+close_of_statement (while _ _ place close) = close
+close_of_statement (for_range _ _ _ _ _ _ place close) = close
+close_of_statement (for_set _ _ _ _ place close) = close
+close_of_statement (break place close) = close
+close_of_statement (continue place close) = close
+close_of_statement (end place close) = close
+close_of_statement (give _ place close) = close
+close_of_statement cut_off = record { line = 0; column = 0 }
+
 abbrev pub if_some : {A B : Type 0} → (A → B) → Option A → Option B
 if_some f None = None
 if_some f (Some a) = Some (f a)
 
--- `text` gives the name with a number, and `sub` the tree of an expression
+-- `names` has the names by their numbers, and `sub` gives the tree of an expression
 module _ (names : List (List ℕ)) (sub : ℕ → Tree) where
   abbrev pub name_of : Declared → Name
   name_of d = record { text = text_at names d.name; place = d.at }

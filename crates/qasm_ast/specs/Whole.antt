@@ -1,5 +1,5 @@
 -- What a program is, seen as lists, and what holds of each.
-use Rattle.std.specs.Prelude.{◌≡◌, ◌≢◌, ℕ, ◌^◌, ◌<◌, ◌≤◌, max, min, List, [], ◌∷◌, length, All, Option, Some, None, slice_get}
+use Rattle.std.specs.Prelude.{◌≡◌, ◌≢◌, ℕ, ◌^◌, ◌<◌, ◌≤◌, List, length, All, Option, Some, None, slice_get}
 use Rattle.qq_base.specs.declared.refusal.Span.{Span}
 use Rattle.qasm_ast.specs.declared.expr.Expr.{Expr}
 use Rattle.qasm_ast.specs.declared.expr.ExprId.{ExprId}
@@ -23,8 +23,6 @@ use Rattle.qasm_ast.specs.declared.stmt.ValueRef.{ValueRef}
 use Rattle.qasm_ast.specs.declared.stmt.ValueRef.TheVariants as v
 use Rattle.qasm_ast.specs.declared.stmt.Modifier.{Modifier}
 use Rattle.qasm_ast.specs.declared.stmt.Modifier.TheVariants as m
-use Rattle.qasm_ast.specs.Tree.{statement_of}
-use Rattle.qasm_ast.specs.Level.{stmt_level}
 
 -- a program as its lists, and the place of the end of its text
 pub record Source : Type 0 where
@@ -181,15 +179,3 @@ pub record IsProgram (p : Source) : Type 0 where
   pub exprs_fit : ExprsFit (length p.names) 0 p.exprs
   pub stmts_fit : StmtsFit (length p.names) p.exprs p.stmts
   pub top_fits : AllOf (IsStmt (length p.stmts)) p.top
-
--- the greatest level of the program's tree
-abbrev pub top_level : Source → List StmtId → ℕ
-top_level p [] = 0
-top_level p (id ∷ ids) = max (stmt_level (statement_of p.names p.exprs p.stmts id.0)) (top_level p ids)
-
-abbrev pub level : Source → ℕ
-level p = top_level p p.top
-
--- cut at 65
-abbrev pub depth : Source → ℕ
-depth p = min 65 (level p)

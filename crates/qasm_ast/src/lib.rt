@@ -2,8 +2,10 @@
 // members name one another by number, each only members with smaller numbers.
 //
 // It stands on `qq_base` for places in the text. The layers above read a program through the inductive
-// tree of `specs/Tree.antt`, which shows no numbers; `specs/Whole.antt` says what holds of each
-// `Program`, and `Program::depth` gives the greatest level of its tree by `specs/Level.antt`.
+// tree of `specs/Tree.antt`, which shows no numbers: `Program::name`, `Program::expr` and `Program::stmt`
+// say how the tree unfolds at each node, `specs/View.antt` has the tree of each part and of the whole
+// program, `specs/Size.antt` measures for walks (as in `walks`), and `specs/Whole.antt` what holds of each
+// `Program`. `Program::depth` gives the greatest level of the tree by `specs/Level.antt`.
 #![tactic(auto)]
 
 mod expr;
@@ -11,6 +13,8 @@ mod items;
 mod level;
 mod program;
 mod stmt;
+#[cfg(test)]
+mod walks;
 mod word;
 
 pub use expr::{

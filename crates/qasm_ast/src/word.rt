@@ -51,7 +51,8 @@ impl Hash for Word {
     }
 }
 
-/// The bits of a bit string as they are written, seen as their list.
+/// The bits of a bit string as they are written, the leftmost first, seen as their list. Index 0 of a register of bits
+/// is the rightmost of them, the last in this list.
 #[derive(Debug, Drop)]
 pub struct BitText {
     pub items: Vec<bool>,

@@ -1,6 +1,7 @@
 use super::*;
 use crate::expr::{Base, ExprKind, TypeRef, UnaryOp};
 use crate::stmt::{Declared, StmtKind, ValueRef};
+use crate::walks::{any_loops, occurs};
 use std::test::Fail;
 
 const PLACE: Span = Span { line: 1, column: 1 };
@@ -41,8 +42,16 @@ fn sample(alloc: Global) -> Result<Program, Fail> {
 }
 
 #[test]
-fn a_program_is_made(rt: HostRuntime) -> Result<(), Fail> {
+fn a_program_is_read(rt: HostRuntime) -> Result<(), Fail> {
     let program = sample(rt.alloc())?;
     assert_eq!(rt; program.depth(), 1);
+    assert_eq!(rt; program.names.len(), 1);
+    assert_eq!(rt; program.exprs.len(), 2);
+    assert_eq!(rt; program.stmts.len(), 1);
+    assert_eq!(rt; program.name(0).items.as_slice(), b"a".as_slice());
+    assert_eq!(rt; program.expr(ExprId(1)).at, PLACE);
+    assert_eq!(rt; program.stmt(StmtId(0)).close, PLACE);
+    assert!(rt; !occurs(&program, ExprId(1), b"a"));
+    assert!(rt; !any_loops(&program, &program.top));
     Ok(())
 }

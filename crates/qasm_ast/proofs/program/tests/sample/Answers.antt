@@ -1,4 +1,4 @@
-use Rattle.std.proofs.Common.{◌≡◌, Some, None, length, refl, ap, arith}
+use Rattle.std.proofs.Common.{Some, length, ap, arith}
 use Rattle.qq_base.specs.declared.refusal.Span.{Span}
 use Rattle.qasm_ast.specs.declared.expr.ExprKind.TheVariants as e
 use Rattle.qasm_ast.specs.declared.expr.Base.TheVariants as b

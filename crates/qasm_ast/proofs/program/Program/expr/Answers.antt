@@ -1,0 +1,18 @@
+use Rattle.std.proofs.Common.{◌≡◌, Some, slice_get, ap, subst}
+use Rattle.qasm_ast.specs.Whole.{Source, IsProgram}
+use Rattle.qasm_ast.proofs.Nodes.{found_in, tree_in-node, place-expr, expr_fits}
+use Rattle.qasm_ast.proofs.program.Program.expr.Goals as goal
+
+pub returns : goal.returns
+returns c =
+    let p : Source = c.args.self.now in
+    let n = c.args.id.0 in
+    let whole : IsProgram p = subst IsProgram c.self.view_is c.self.invariant.0 in
+    let found : slice_get p.exprs n ≡ Some c.index.result.now = found_in _ _ _ _ (ap (λ (q : Source). q.exprs) c.self.view_is) c.requires c.index.ensures in
+    record {
+      found = found;
+      tree = tree_in-node p whole n c.index.result.now c.requires found;
+      place = place-expr p whole n c.index.result.now c.requires found;
+      fits = expr_fits p whole n c.index.result.now c.requires found;
+      whole = whole;
+    }
