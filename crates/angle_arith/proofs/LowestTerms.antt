@@ -4,7 +4,7 @@ use Rattle.std.proofs.Math.Nat.{div-mul_cancel, eq_of_mul-eq-mul_right, eq-zero_
 use Rattle.std.proofs.lemmas.Int.{ints, unsigned_abs-mul}
 use Rattle.std.specs.Int.{IsGcd, ◌∣◌}
 use mathlib.Core.Bool.{beq}
-use Rattle.angle_arith.specs.Fraction.{Fraction, fraction_of, IsSameFraction, IsLowestTerms, IsInRange}
+use Rattle.angle_arith.specs.Fraction.{Fraction, fraction_of, IsSameFraction, IsLowestTerms, IsInRange, negative_of}
 use Rattle.angle_arith.proofs.Divisors.{coprime_from_IsGcd, least_from_coprime}
 use Rattle.angle_arith.proofs.Integers.{zero_from_size, same_from_product}
 
@@ -93,3 +93,12 @@ unique f g f_lowest g_lowest e =
     let same_den : f.den ≡ g.den = omega (arith, ints) in
     let same_num = same_from_product f.num g.num f.den f_positive (ap (λ d. f.num *ℤ d) same_den ∙ e) in
     ap₂ fraction_of same_num same_den
+
+-- the negative of a fraction in lowest terms is in lowest terms
+pub lowest_negative : (f : Fraction) → IsLowestTerms f → IsLowestTerms (negative_of f)
+lowest_negative f h =
+    let size : unsigned_abs f.num ≡ unsigned_abs (neg_ℤ f.num) = omega (arith, ints) in
+    record {
+      small = record { positive = h.small.positive; num_size = subst (λ x. x ≤ 2 ^ 62) size h.small.num_size; den_size = h.small.den_size };
+      coprime = subst (λ x. IsGcd x (unsigned_abs f.den) 1) size h.coprime;
+    }

@@ -1,5 +1,5 @@
 -- Fractions of whole numbers without bound, and what a fraction of pi is as parts of a turn. The fraction p / q of pi is the angle p / q * pi.
-use Rattle.std.specs.Prelude.{◌≡◌, ℕ, ◌^◌, ◌<◌, ◌≤◌, ℤ, pos, ◌+ℤ◌, ◌-ℤ◌, ◌*ℤ◌, ◌≤ℤ◌, ◌<ℤ◌, unsigned_abs}
+use Rattle.std.specs.Prelude.{◌≡◌, ℕ, ◌^◌, ◌<◌, ◌≤◌, ℤ, pos, neg_ℤ, ◌+ℤ◌, ◌-ℤ◌, ◌*ℤ◌, ◌≤ℤ◌, ◌<ℤ◌, unsigned_abs}
 use Rattle.std.specs.Int.{IsGcd, int_rem_euclid}
 
 pub record Fraction : Type 0 where
@@ -37,6 +37,9 @@ abbrev pub IsInRange : Fraction → Type 0
 IsInRange f = (g : Fraction) × IsSmall g × IsSameFraction g f
 
 -- ---- arithmetic
+
+abbrev pub negative_of : Fraction → Fraction
+negative_of f = fraction_of (neg_ℤ f.num) f.den
 
 abbrev pub sum_of : Fraction → Fraction → Fraction
 sum_of f g = fraction_of (f.num *ℤ g.den +ℤ g.num *ℤ f.den) (f.den *ℤ g.den)

@@ -1,6 +1,6 @@
 // Sums, differences, products, quotients and the order of fractions of pi.
-ghost use Rattle.std.specs.Prelude.{◌≡◌, ◌≢◌, ◌↔◌, ◌⊎◌, ◌≤◌, ◌^◌, pos, ◌*ℤ◌, unsigned_abs, Err, IfOk, IfErr};
-ghost use Rattle.angle_arith.specs.Fraction.{IsSameFraction, IsBelow, IsLowestTerms, IsInRange, sum_of, difference_of, product_of, quotient_of};
+ghost use Rattle.std.specs.Prelude.{◌≡◌, ◌≢◌, ◌↔◌, ◌⊎◌, ◌≤◌, ◌^◌, pos, ◌*ℤ◌, unsigned_abs, IsTrue, Err, IfOk, IfErr};
+ghost use Rattle.angle_arith.specs.Fraction.{Fraction, IsSameFraction, IsBelow, IsLowestTerms, IsInRange, negative_of, sum_of, difference_of, product_of, quotient_of};
 
 use crate::fraction::{AngleRefusal, PiFraction, lowest_terms};
 use std::cmp::Ordering;
@@ -63,6 +63,23 @@ pub fn angle_div(a: PiFraction, k: i128) -> Result<PiFraction, AngleRefusal>
     ensures refusals { IfErr result (λ e. (e ≡ AngleRefusal.Divide) ⊎ (e ≡ AngleRefusal.Range)) }
 {
     PiFraction::new(a.num(), a.den() * k)
+}
+
+/// The angle turned the other way: its numerator with the other sign. It has lowest terms too, so nothing is refused.
+pub fn angle_neg(a: PiFraction) -> PiFraction
+    ensures exact { result ≡ negative_of a }
+    ensures lowest { IsLowestTerms result }
+{
+    a.negated()
+}
+
+/// Whether two angles are the same, which are never reduced modulo a turn. A fraction has one form in lowest terms, so
+/// this is `==`.
+pub fn angle_eq(a: PiFraction, b: PiFraction) -> bool
+    ensures same { IsTrue result ↔ IsSameFraction a b }
+    ensures one_form { (f g : Fraction) → IsLowestTerms f → IsLowestTerms g → (f ≡ g) ↔ IsSameFraction f g }
+{
+    angle_cmp(a, b) == Ordering::Equal
 }
 
 /// The exact order of two angles, which are never reduced modulo a turn.

@@ -1,7 +1,7 @@
 // The type of a fraction of pi, and the one function that brings a quotient of whole numbers to lowest terms.
 ghost use Rattle.std.specs.Prelude.{◌≡◌, ◌≢◌, ◌↔◌, ◌⊎◌, ◌≤◌, ◌^◌, pos, neg_ℤ, Err, IfOk, IfErr, if◌then◌else◌};
 ghost use Rattle.std.specs.Int.{IsGcd};
-ghost use Rattle.angle_arith.specs.Fraction.{fraction_of, IsSameFraction, IsLowestTerms, IsInRange};
+ghost use Rattle.angle_arith.specs.Fraction.{fraction_of, IsSameFraction, IsLowestTerms, IsInRange, negative_of};
 
 use std::marker::Model;
 
@@ -92,6 +92,17 @@ impl PiFraction {
         ensures lowest { IsLowestTerms self }
     {
         self.den
+    }
+
+    /// The fraction whose numerator has the other sign.
+    pub(crate) fn negated(self) -> Self
+        ensures exact { result ≡ negative_of self }
+        ensures lowest { IsLowestTerms result }
+    {
+        PiFraction {
+            num: -self.num,
+            den: self.den,
+        }
     }
 }
 

@@ -14,8 +14,10 @@
 //!   in lowest terms (`lowest`), that `Range` comes exactly where no fraction with numbers of at most
 //!   2^62 in size is the result (`range`), `Divide` exactly at the divisor 0 (`divide`), and no other
 //!   refusal (`refusals`);
-//! - of `angle_cmp`, that its answer is the order of the two fractions, and that two values of the same
-//!   fraction are equal (`unique`);
+//! - of `angle_neg`, that it is the exact negative (`exact`), which is never out of range;
+//! - of `angle_cmp`, that its answer is the order of the two fractions, and of `angle_eq`, that it says whether
+//!   they are the same (`same`); fractions in lowest terms are equal exactly where they are the same
+//!   (`one_form`, `unique`);
 //! - of `to_units` and `to_angle`, that an Ok is the whole number of parts (`units`, `count`), and each
 //!   refusal exactly by its cause (`not_dyadic`, `turn_range`, `refusals`).
 #![tactic(auto)]
@@ -26,6 +28,6 @@ mod parts;
 #[cfg(test)]
 mod tests;
 
-pub use arithmetic::{angle_add, angle_cmp, angle_div, angle_mul, angle_sub};
+pub use arithmetic::{angle_add, angle_cmp, angle_div, angle_eq, angle_mul, angle_neg, angle_sub};
 pub use fraction::{AngleRefusal, PiFraction};
 pub use parts::{to_angle, to_units};

@@ -222,3 +222,13 @@ fn counts_parts(rt: HostRuntime) -> Result<(), Fail> {
     }
     Ok(())
 }
+
+#[test]
+fn turns_round(rt: HostRuntime) -> Result<(), Fail> {
+    let quarter = fraction((1, 4))?;
+    assert_eq!(rt; numbers(Ok(angle_neg(quarter))), Ok((-1, 4)));
+    assert_eq!(rt; numbers(Ok(angle_neg(fraction((-TOP, 3))?))), Ok((TOP, 3)));
+    assert!(rt; angle_eq(quarter, fraction((-2, -8))?));
+    assert!(rt; !angle_eq(quarter, fraction((9, 4))?));
+    Ok(())
+}
