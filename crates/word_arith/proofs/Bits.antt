@@ -5,13 +5,16 @@ use Rattle.std.proofs.lemmas.Nat.{pow_pos, and_assoc, shr_split}
 use Rattle.std.proofs.lemmas.Nat.Bits.{bit_at-lt, bit_at_and, bit_at_or, bit_at_xor, bit_at_above, bit_at_cat_low, bit_at_not, same_from_bits}
 use Rattle.std.proofs.lemmas.Int.{ints, of_z-to_z}
 use Rattle.std.proofs.lemmas.Bool.{cases_lt}
-use Rattle.std.specs.Int.{w64, cast_unsigned, cast_signed, bit_at, bit_not}
+use Rattle.std.specs.Int.{Width, w64, cast_unsigned, cast_signed, bit_at, bit_not}
 use Rattle.std.specs.Int.Bits.{bit_and, bit_xor, xor_add_and, and_self}
 use Rattle.std.specs.Int.Signed.{mag}
 use Rattle.word_arith.specs.declared.word_ty.WordTy.{WordTy}
 use Rattle.word_arith.specs.Whole.{int_bit_at, bit_and_not, int_and, int_or, int_xor}
 use Rattle.word_arith.specs.WordTy.{value_of, IsValue, IsWord, reduced}
-use mir.ValLaws.{of_z_fits}
+use mir.Val.{bits, hbits}
+use mir.ValLaws.{of_z_fits, to_z-Fits}
+use Rattle.std.proofs.Math.Pow.{pow_mono}
+use Rattle.word_arith.proofs.Congruence.{hbits-bits}
 use Rattle.word_arith.proofs.Reduction.{bounds-signed, bounds-unsigned, value_of-unsigned, reduced-value}
 
 -- ---- the bits of the operations on whole numbers
@@ -84,25 +87,29 @@ mag_from_steady : (k : ℕ) (v : ℤ) → ((i : ℕ) → k ≤ i → int_bit_at 
 mag_from_steady k (pos n) h = below_from_bits k n h
 mag_from_steady k (negsuc n) h = below_from_bits k n (λ i l. omega (arith, h i l, bit_at-lt n i, bit_at-lt n k))
 
--- ---- the bits of an i64: from bit 63 on they are its sign
+-- ---- the bits of a signed number of w bits: from its highest bit on they are its sign
 
-bit_at-steady : (n i : ℕ) → n < 2 ^ 63 → bit_at n i ≡ bit_at n (min i 63)
-bit_at-steady n i h = ⊎_elim
-    (λ l. let e : i ≡ min i 63 = omega arith in ap (bit_at n) e)
-    (λ l. let e : 63 ≡ min i 63 = omega arith in bit_at_above n 63 i h l ∙ sym (bit_at_above n 63 63 h (omega arith)) ∙ ap (bit_at n) e) (cases_lt i 63)
+bit_at-steady : (k n i : ℕ) → n < 2 ^ k → bit_at n i ≡ bit_at n (min i k)
+bit_at-steady k n i h = ⊎_elim
+    (λ l. let e : i ≡ min i k = omega arith in ap (bit_at n) e)
+    (λ l. let e : k ≡ min i k = omega arith in bit_at_above n k i h l ∙ sym (bit_at_above n k k h (omega arith)) ∙ ap (bit_at n) e) (cases_lt i k)
 
-int_bit_at-i64 : (z : ℤ) (i : ℕ) → FitsSigned w64 z → int_bit_at z i ≡ bit_at (cast_unsigned w64 z) (min i 63)
-int_bit_at-i64 (pos n) i f = bit_at-steady n i f.sfits
-int_bit_at-i64 (negsuc n) i f =
-    let whole : 2 ^ 64 - suc n ≡ bit_not w64 n = omega arith in
-    ap (λ x. 1 - x) (bit_at-steady n i f.sfits)
-    ∙ sym (bit_at_not w64 n (min i 63) (omega (arith, f.sfits)) (omega arith))
-    ∙ ap (λ x. bit_at x (min i 63)) (sym whole)
+int_bit_at-signed : (w : Width) (z : ℤ) (i : ℕ) → FitsSigned w z → int_bit_at z i ≡ bit_at (cast_unsigned w z) (min i (hbits w))
+int_bit_at-signed w (pos n) i f = bit_at-steady (hbits w) n i f.sfits
+int_bit_at-signed w (negsuc n) i f =
+    let top = hbits-bits w in
+    let below : hbits w ≤ bits w = omega (arith, top) in
+    let more = pow_mono below in
+    let small = f.sfits in
+    let fits : n < 2 ^ bits w = omega (arith, small, more) in
+    let whole : 2 ^ bits w - suc n ≡ bit_not w n = omega arith in
+    ap (λ x. 1 - x) (bit_at-steady (hbits w) n i small)
+    ∙ sym (bit_at_not w n (min i (hbits w)) fits (omega (arith, top)))
+    ∙ ap (λ x. bit_at x (min i (hbits w))) (sym whole)
 
-int_bit_at-cast : (n i : ℕ) → n < 2 ^ 64 → int_bit_at (cast_signed w64 n) i ≡ bit_at n (min i 63)
-int_bit_at-cast n i h =
-    let fits : FitsSigned w64 (cast_signed w64 n) = omega (arith, ints) in
-    int_bit_at-i64 (cast_signed w64 n) i fits ∙ ap (λ x. bit_at x (min i 63)) (of_z-to_z w64 n h)
+int_bit_at-cast : (w : Width) (n i : ℕ) → n < 2 ^ bits w → int_bit_at (cast_signed w n) i ≡ bit_at n (min i (hbits w))
+int_bit_at-cast w n i h =
+    int_bit_at-signed w (cast_signed w n) i (to_z-Fits w n (record { fits = h })) ∙ ap (λ x. bit_at x (min i (hbits w))) (of_z-to_z w n h)
 
 -- ---- the values of a type by their size: those of a signed type of n bits need n - 1 bits beside the sign
 
@@ -119,7 +126,20 @@ below_from_value ty n s h = omega (arith, ints, (bounds-unsigned ty s).1, h.1, p
 value_from_below : (ty : WordTy) (n : ℕ) → ty.signed ≡ false → n < 2 ^ ty.width → IsValue ty (pos n)
 value_from_below ty n s h = (omega (arith, ints, (bounds-unsigned ty s).0), omega (arith, ints, (bounds-unsigned ty s).1))
 
--- ---- an operation on the bits of two i64 words, whose bit is g of their bits
+-- ---- an operation on the bits of two signed numbers of w bits, whose bit is g of their bits, is that on whole numbers
+
+pub whole_from_bits : (op g : ℕ → ℕ → ℕ) → ((m n i : ℕ) → bit_at (op m n) i ≡ g (bit_at m i) (bit_at n i))
+    → ((k m n : ℕ) → m < 2 ^ k → n < 2 ^ k → op m n < 2 ^ k)
+    → (whole : ℤ → ℤ → ℤ) → ((x y : ℤ) (i : ℕ) → int_bit_at (whole x y) i ≡ g (int_bit_at x i) (int_bit_at y i))
+    → (w : Width) (a b : ℤ) → FitsSigned w a → FitsSigned w b → cast_signed w (op (cast_unsigned w a) (cast_unsigned w b)) ≡ whole a b
+whole_from_bits op g law bound whole each w a b fits_a fits_b =
+    let m = cast_unsigned w a in
+    let n = cast_unsigned w b in
+    let small = bound (bits w) m n (of_z_fits w a fits_a).fits (of_z_fits w b fits_b).fits in
+    same_from_int_bits _ _ (λ i. int_bit_at-cast w (op m n) i small ∙ law m n (min i (hbits w))
+    ∙ (λ t. g (sym (int_bit_at-signed w a i fits_a) t) (sym (int_bit_at-signed w b i fits_b) t)) ∙ sym (each a b i))
+
+-- ---- the same on the bits of two i64 words
 
 module _ (op g : ℕ → ℕ → ℕ)
     (law : (m n i : ℕ) → bit_at (op m n) i ≡ g (bit_at m i) (bit_at n i))
@@ -139,8 +159,8 @@ module _ (op g : ℕ → ℕ → ℕ)
 
       by : (s : Bool) → int_bit_at (cond s (cast_signed w64 (op m n)) (pos (cast_unsigned w64 (cast_signed w64 (op m n))))) i ≡ g (int_bit_at (cond s a (pos m)) i) (int_bit_at (cond s b (pos n)) i)
       by true =
-          int_bit_at-cast (op m n) i small ∙ law m n (min i 63)
-          ∙ (λ t. g (sym (int_bit_at-i64 a i fits_a) t) (sym (int_bit_at-i64 b i fits_b) t))
+          int_bit_at-cast w64 (op m n) i small ∙ law m n (min i 63)
+          ∙ (λ t. g (sym (int_bit_at-signed w64 a i fits_a) t) (sym (int_bit_at-signed w64 b i fits_b) t))
       by false = ap (λ x. bit_at x i) (of_z-to_z w64 (op m n) small) ∙ law m n i
 
   pub word_of_bits : IsWord ty a → IsWord ty b → IsWord ty (cast_signed w64 (op (cast_unsigned w64 a) (cast_unsigned w64 b)))

@@ -1,5 +1,5 @@
 -- Congruence of whole numbers, and what `rem_euclid` leaves.
-use Rattle.std.proofs.Common.{◌≡◌, ℕ, zero, suc, ◌+◌, ◌-◌, ◌*◌, ◌/◌, ◌%◌, ◌<◌, ◌≤◌, ℤ, pos, negsuc, ◌+ℤ◌, ◌*ℤ◌, ◌≤ℤ◌, ◌<ℤ◌, refl, ap, ◌∙◌, FitsSigned, ◌^◌, arith}
+use Rattle.std.proofs.Common.{◌≡◌, ℕ, zero, suc, ◌+◌, ◌-◌, ◌*◌, ◌/◌, ◌%◌, ◌<◌, ◌≤◌, ℤ, pos, negsuc, neg_ℤ, ◌+ℤ◌, ◌-ℤ◌, ◌*ℤ◌, ◌≤ℤ◌, ◌<ℤ◌, refl, ap, ◌∙◌, FitsSigned, ◌^◌, arith}
 use Rattle.std.proofs.Math.Nat.{div-add-mod', mod-lt}
 use Rattle.std.proofs.lemmas.Int.{ints}
 use Rattle.std.proofs.lemmas.Nat.{pow-add}
@@ -52,6 +52,24 @@ congruent_mul m a b c d g h =
     let turned : IsCongruent m (b *ℤ c) (b *ℤ d) = rw (*ℤ_comm b c, *ℤ_comm b d) (congruent_mul_right m c d b h) in
     congruent_trans m (a *ℤ c) (b *ℤ c) (b *ℤ d) (congruent_mul_right m a b c g) turned
 
+-- sums, negatives and differences of congruent numbers are congruent
+pub congruent_add : (m : ℕ) (a b c d : ℤ) → IsCongruent m a b → IsCongruent m c d → IsCongruent m (a +ℤ c) (b +ℤ d)
+congruent_add m a b c d g h =
+    let p = multiples_from_congruent m a b g in
+    let q = multiples_from_congruent m c d h in
+    congruent_from_multiples m (a +ℤ c) (b +ℤ d) (p.0 + q.0) (p.1 + q.1) (omega (arith, ints, p.2, q.2))
+
+pub congruent_neg : (m : ℕ) (a b : ℤ) → IsCongruent m a b → IsCongruent m (neg_ℤ a) (neg_ℤ b)
+congruent_neg m a b h =
+    let p = multiples_from_congruent m a b h in
+    congruent_from_multiples m (neg_ℤ a) (neg_ℤ b) p.1 p.0 (omega (arith, ints, p.2))
+
+pub congruent_sub : (m : ℕ) (a b c d : ℤ) → IsCongruent m a b → IsCongruent m c d → IsCongruent m (a -ℤ c) (b -ℤ d)
+congruent_sub m a b c d g h =
+    let p = multiples_from_congruent m a b g in
+    let q = multiples_from_congruent m c d h in
+    congruent_from_multiples m (a -ℤ c) (b -ℤ d) (p.0 + q.1) (p.1 + q.0) (omega (arith, ints, p.2, q.2))
+
 -- two congruent numbers less than m apart are equal
 pub same_from_congruent : (m : ℕ) (a b low : ℤ) → IsCongruent m a b → low ≤ℤ a → a <ℤ (low +ℤ pos m) → low ≤ℤ b → b <ℤ (low +ℤ pos m) → a ≡ b
 same_from_congruent m a b low h la ua lb ub = by h.0 h.1
@@ -71,12 +89,12 @@ int_rem_euclid-inside m (pos a) h = (omega (arith, ints), omega (arith, ints, mo
 int_rem_euclid-inside m (negsuc a) h = (omega (arith, ints), omega (arith, ints, mod-lt a h))
 
 -- a signed number has one bit fewer for its size
-below_bits : (w : Width) → hbits w ≤ bits w
-below_bits w8 = omega arith
-below_bits w16 = omega arith
-below_bits w32 = omega arith
-below_bits w64 = omega arith
-below_bits w128 = omega arith
+pub hbits-bits : (w : Width) → hbits w < bits w
+hbits-bits w8 = omega arith
+hbits-bits w16 = omega arith
+hbits-bits w32 = omega arith
+hbits-bits w64 = omega arith
+hbits-bits w128 = omega arith
 
 -- a signed number is congruent to its bits, read without a sign, modulo each power of 2 up to its width's
 pub cast_unsigned-congruent : (w : Width) (k : ℕ) (z : ℤ) → k ≤ bits w → FitsSigned w z → IsCongruent (2 ^ k) (pos (cast_unsigned w z)) z
@@ -84,4 +102,4 @@ cast_unsigned-congruent w k (pos n) h f = congruent_refl (2 ^ k) (pos n)
 cast_unsigned-congruent w k (negsuc n) h f =
     let e : bits w ≡ (bits w - k) + k = omega arith in
     let whole : 2 ^ bits w ≡ 2 ^ (bits w - k) * 2 ^ k = ap (λ x. 2 ^ x) e ∙ pow-add 2 (bits w - k) k in
-    congruent_from_multiples (2 ^ k) (pos (cast_unsigned w (negsuc n))) (negsuc n) 0 (2 ^ (bits w - k)) (omega (arith, ints, f.sfits, whole, pow_mono (below_bits w)))
+    congruent_from_multiples (2 ^ k) (pos (cast_unsigned w (negsuc n))) (negsuc n) 0 (2 ^ (bits w - k)) (omega (arith, ints, f.sfits, whole, pow_mono (let top = hbits-bits w in let below : hbits w ≤ bits w = omega (arith, top) in below)))

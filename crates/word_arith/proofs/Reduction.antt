@@ -95,3 +95,11 @@ value_of-read ty a v f e = e ∙ ap (value_of ty) (to_z-of_z w64 a f)
 
 pub value_of-given : (ty : WordTy) (r x y : ℤ) → FitsSigned w64 r → value_of ty r ≡ reduced ty x → x ≡ y → value_of ty (cast_signed w64 (cast_unsigned w64 r)) ≡ reduced ty y
 value_of-given ty r x y f e d = ap (value_of ty) (to_z-of_z w64 r f) ∙ e ∙ ap (reduced ty) d
+
+-- numbers with one reduction are congruent
+pub congruent_from_reduced : (ty : WordTy) (x y : ℤ) → reduced ty x ≡ reduced ty y → IsCongruent (2 ^ ty.width) x y
+congruent_from_reduced ty x y e =
+    let m = 2 ^ ty.width in
+    let near_x = congruent_sym m (reduced ty x) x (reduced-IsReduction ty x).1 in
+    let near_y = subst (λ (r : ℤ). IsCongruent m r y) (sym e) (reduced-IsReduction ty y).1 in
+    congruent_trans m x (reduced ty x) y near_x near_y

@@ -1,15 +1,25 @@
 -- The value of a word, and the reduction of a whole number to a value of the type. The types are `int[n]` and `uint[n]` of the OpenQASM 3.0 specification, "Types and Casting".
-use Rattle.std.specs.Prelude.{◌-◌, ◌^◌, ℤ, pos, neg_ℤ, ◌+ℤ◌, ◌-ℤ◌, ◌≤ℤ◌, if◌then◌else◌}
+use Rattle.std.specs.Prelude.{ℕ, Bool, ◌-◌, ◌^◌, ℤ, pos, neg_ℤ, ◌+ℤ◌, ◌-ℤ◌, ◌≤ℤ◌, if◌then◌else◌}
 use Rattle.std.specs.Int.{w64, cast_unsigned, int_rem_euclid}
 use Rattle.word_arith.specs.declared.word_ty.WordTy.{WordTy}
 use Rattle.word_arith.specs.Whole.{IsCongruent}
 
 -- the least and the greatest value: -2 ^ (n - 1) and 2 ^ (n - 1) - 1 of `int[n]`, 0 and 2 ^ n - 1 of `uint[n]`
+abbrev pub least_value : Bool → ℕ → ℤ
+least_value signed width = if signed then neg_ℤ (pos (2 ^ (width - 1))) else pos 0
+
+abbrev pub greatest_value : Bool → ℕ → ℤ
+greatest_value signed width = if signed then pos (2 ^ (width - 1) - 1) else pos (2 ^ width - 1)
+
+-- x modulo 2 ^ width, counted from the least value on
+abbrev pub value_modulo : Bool → ℕ → ℤ → ℤ
+value_modulo signed width x = least_value signed width +ℤ int_rem_euclid (x -ℤ least_value signed width) (pos (2 ^ width))
+
 abbrev pub lowest : WordTy → ℤ
-lowest ty = if ty.signed then neg_ℤ (pos (2 ^ (ty.width - 1))) else pos 0
+lowest ty = least_value ty.signed ty.width
 
 abbrev pub highest : WordTy → ℤ
-highest ty = if ty.signed then pos (2 ^ (ty.width - 1) - 1) else pos (2 ^ ty.width - 1)
+highest ty = greatest_value ty.signed ty.width
 
 -- v is a value of the type
 abbrev pub IsValue : WordTy → ℤ → Type 0
@@ -23,9 +33,9 @@ value_of ty a = if ty.signed then a else pos (cast_unsigned w64 a)
 abbrev pub IsWord : WordTy → ℤ → Type 0
 IsWord ty a = IsValue ty (value_of ty a)
 
--- x modulo 2 ^ width, counted from the least value on: the one value of the type that is congruent to x
+-- the one value of the type that is congruent to x
 abbrev pub reduced : WordTy → ℤ → ℤ
-reduced ty x = lowest ty +ℤ int_rem_euclid (x -ℤ lowest ty) (pos (2 ^ ty.width))
+reduced ty x = value_modulo ty.signed ty.width x
 
 -- v is a value of the type, and congruent to x modulo 2 ^ width
 abbrev pub IsReduction : WordTy → ℤ → ℤ → Type 0

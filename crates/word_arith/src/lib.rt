@@ -9,18 +9,27 @@
 // arguments as whole numbers without bound, reduced once modulo 2^width, and `word`, that the result is a word again.
 // `specs/WordTy.antt` says what a word's value and the reduction are, `specs/Whole.antt` has the operations on the bits
 // of whole numbers. `wrap` also says that the reduction is the one value of the type that is congruent, and that each
-// value has one word, so the two clauses fix the i64 that a call gives.
+// value has one word, so the two clauses fix the i64 that a call gives. `value` is a word's value, and `is_value` asks
+// whether a whole number is a value of the type.
+//
+// For constants, which are whole numbers, `whole_and`, `whole_or` and `whole_xor` are the operations on their bits. Two
+// laws serve a layer that computes first and reduces once: `congruent_numbers_combine` and
+// `congruent_numbers_have_one_word`.
 #![tactic(auto)]
 
 ghost use Rattle.std.specs.Prelude.{◌≡◌, ℕ, ◌+◌, ◌-◌, ◌%◌, ◌^◌, ◌<◌, ◌≤◌, min, max, ◌↔◌, ℤ, pos, neg_ℤ, ◌+ℤ◌, ◌-ℤ◌, ◌*ℤ◌, ◌≤ℤ◌, ◌<ℤ◌, IsTrue, FitsSigned, unsigned_abs, int_div, int_rem};
 ghost use Rattle.std.specs.Int.{w64, int_div_euclid};
 ghost use Rattle.word_arith.specs.Whole.{IsCongruent, int_bit_at, int_and, int_or, int_xor};
-ghost use Rattle.word_arith.specs.WordTy.{value_of, reduced, IsWord, IsReduction};
+ghost use Rattle.word_arith.specs.WordTy.{value_of, reduced, IsValue, IsWord, IsReduction};
 
+mod laws;
 #[cfg(test)]
 mod tests;
+mod whole;
 mod word_ty;
 
+pub use laws::{congruent_numbers_combine, congruent_numbers_have_one_word};
+pub use whole::{whole_and, whole_or, whole_xor};
 pub use word_ty::WordTy;
 
 /// The word of any whole number: the number modulo 2^width, as the value of the type that is congruent to it.
@@ -69,8 +78,8 @@ fn sign_extended(low: u64, width: u32) -> i64
     }
 }
 
-// The value of a word.
-fn value(a: i64, ty: WordTy) -> i128
+/// The value of a word: the i64 itself where the type is signed, else the number from 0 on that has the same 64 bits.
+pub fn value(a: i64, ty: WordTy) -> i128
     ensures value { result ≡ value_of ty a }
     ensures bound { unsigned_abs result < 2 ^ 64 }
 {
@@ -79,6 +88,14 @@ fn value(a: i64, ty: WordTy) -> i128
     } else {
         i128::from(a.cast_unsigned())
     }
+}
+
+/// Whether a whole number is one of the type's values: from -2^(n-1) below 2^(n-1) of `int[n]`, from 0 below 2^n of
+/// `uint[n]`.
+pub fn is_value(x: i128, ty: WordTy) -> bool
+    ensures { IsTrue result ↔ IsValue ty x }
+{
+    value(wrap(x, ty), ty) == x
 }
 
 /// The sum, wrapped. Both arguments are words of the type.

@@ -469,3 +469,27 @@ fn turns_and_shifts(rt: HostRuntime) {
         assert_eq!(rt; got, want, "{x} by {amount} at {signed} {width}");
     }
 }
+
+#[test]
+fn knows_values(rt: HostRuntime) {
+    let byte = WordTy {
+        signed: true,
+        width: 8,
+    };
+    let word = WordTy {
+        signed: false,
+        width: 64,
+    };
+    assert!(rt; is_value(-128, byte) && !is_value(128, byte) && !is_value(-129, byte));
+    assert!(rt; is_value((1 << 64) - 1, word) && !is_value(1 << 64, word) && !is_value(-1, word));
+    assert_eq!(rt; (value(-1, byte), value(-1, word)), (-1, (1 << 64) - 1));
+}
+
+#[test]
+fn combines_whole_numbers(rt: HostRuntime) {
+    assert_eq!(rt;
+        [whole_and(-4, 7), whole_or(-4, 1), whole_xor(-4, 7)],
+        [4, -3, -5]
+    );
+    assert_eq!(rt; whole_and(-1, (1 << 64) - 1), (1 << 64) - 1);
+}
