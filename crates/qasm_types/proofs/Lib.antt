@@ -1,2 +1,6 @@
-pub mod Casting
 pub mod ByKind
+pub mod Casting
+pub mod Choices
+pub mod Meeting
+pub mod Operating
+pub mod Planning

@@ -1,7 +1,7 @@
 // What stands at an operator's sides, and the types at which it is taken.
-ghost use Rattle.std.specs.Prelude.{◌≡◌};
+ghost use Rattle.std.specs.Prelude.{◌≡◌, ◌≤◌};
 ghost use Rattle.qasm_types.specs.Types.{IsType, IsConstant};
-ghost use Rattle.qasm_types.specs.declared.ty.Ty.TheVariants.{Whole};
+ghost use Rattle.qasm_types.specs.declared.ty.Ty.TheVariants.{Whole, Uint};
 
 use crate::ty::Ty;
 
@@ -26,7 +26,36 @@ pub struct OpPlan {
     ghost result_is_type: { IsType result },
 }
 
+impl Operand {
+    /// The operand as `uint[width]`.
+    pub(crate) fn as_word(self, width: u32) -> Self
+        requires some { 1 ≤ width }
+        requires fits { width ≤ 64 }
+        ensures ty { result.ty ≡ Uint width }
+        ensures whole { result.whole ≡ self.whole }
+    {
+        Operand {
+            ty: Ty::Uint(width),
+            whole: self.whole,
+        }
+    }
+}
+
 impl OpPlan {
+    /// The operands at their own types.
+    pub(crate) fn of(left: Operand, right: Operand, outcome: Ty) -> Self
+        requires { IsType outcome }
+        ensures left { result.left ≡ left.ty }
+        ensures right { result.right ≡ right.ty }
+        ensures result { result.result ≡ outcome }
+    {
+        OpPlan {
+            left: left.ty,
+            right: right.ty,
+            result: outcome,
+        }
+    }
+
     /// Both operands and the result at one type.
     pub(crate) fn all(ty: Ty) -> Self
         requires { IsType ty }

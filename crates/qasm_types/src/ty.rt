@@ -1,7 +1,7 @@
 // The types of expressions.
 ghost use Rattle.std.specs.Prelude.{◌≡◌};
 ghost use Rattle.qasm_types.specs.Types.{cells_of};
-ghost use Rattle.qasm_types.specs.Plans.{is_word as word_test, is_truth as truth_test};
+ghost use Rattle.qasm_types.specs.Plans.{is_word as word_test, is_number as number_test, is_truth as truth_test};
 
 /// The type of an expression: a classical type of the OpenQASM 3.0 specification, "Types and Casting", or what stands in
 /// the place of one for a constant or in a gate's body.
@@ -33,6 +33,13 @@ impl Ty {
         ensures { result ≡ word_test self }
     {
         matches!(self, Ty::Int(_) | Ty::Uint(_))
+    }
+
+    /// Whether the type is that of a number: a word or a whole constant.
+    pub(crate) fn is_number(self) -> bool
+        ensures { result ≡ number_test self }
+    {
+        matches!(self, Ty::Int(_) | Ty::Uint(_) | Ty::Whole)
     }
 
     /// Whether the type is `bool` or `bit`.
