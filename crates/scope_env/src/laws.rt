@@ -1,0 +1,23 @@
+//! Laws of scopes, over any content.
+
+ghost use Rattle.scope_env.specs.Scopes.{DeclarationsAreFound, UnknownNamesAreNowhere, ScopesAreRestored, ValuesAreMapped};
+
+/// A declared name is found, and other names mean what they meant.
+pub fn declarations_are_found<T>()
+    ensures { DeclarationsAreFound T }
+{}
+
+/// A name means nothing exactly where no scope has it.
+pub fn unknown_names_are_nowhere<T>()
+    ensures { UnknownNamesAreNowhere T }
+{}
+
+/// A scope that is opened hides nothing, and its closing restores the scopes.
+pub fn scopes_are_restored<T>()
+    ensures { ScopesAreRestored T }
+{}
+
+/// Where a function is applied to all values, each name finds that function of what it found.
+pub fn values_are_mapped<T, U>()
+    ensures { ValuesAreMapped T U }
+{}
