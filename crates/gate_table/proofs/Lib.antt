@@ -1,0 +1,3 @@
+pub mod Checks
+pub mod Columns
+pub mod Names
