@@ -1,5 +1,6 @@
 pub mod Functions
 pub mod Items
+pub mod Kinds
 pub mod Machine
 pub mod Module
 pub mod Numbered

@@ -8,8 +8,9 @@ use Rattle.qir_module.specs.Functions as table
 use Rattle.qir_module.specs.Module.{Module}
 use Rattle.qir_module.specs.Text.{line, comma_joined}
 use Rattle.qir_module.specs.Written.{label_text, labels_text, behind_labels, block_text, kind_text, gives_text, group_text, row_text, declaration_text, attributes_text, flags_text, written}
-use Rattle.qir_writer.specs.declared.function.Row.{Row}
-use Rattle.qir_writer.specs.Parts.{comma_before, kind_of, row_line}
+use Rattle.qir_module.specs.Kinds.{kind_of}
+use Rattle.qir_module.specs.declared.function.FunctionRow.{FunctionRow}
+use Rattle.qir_writer.specs.Parts.{comma_before, row_line}
 
 -- ---- texts behind one another
 
@@ -75,7 +76,7 @@ row_text_of None name takes gives irreversible has_name has_takes has_gives has_
 row_text_of (Some row) name takes gives irreversible has_name has_takes has_gives has_irreversible = cc
 
 -- the same by the code's row
-pub row_line_of : (row : Row) (found : Option table.Row) →
+pub row_line_of : (row : FunctionRow) (found : Option table.Row) →
     Some row.name.now ≡ option_map (λ r. r.name) found → Some (map kind_of row.takes.now) ≡ option_map (λ r. r.takes) found →
     Some row.gives ≡ option_map (λ r. r.gives) found → Some row.irreversible ≡ option_map (λ r. r.irreversible) found →
     row_line row ≡ row_text found

@@ -1,5 +1,5 @@
 use Rattle.qir_module.specs.Written.{kind_text}
-use Rattle.qir_writer.specs.Parts.{kind_of}
+use Rattle.qir_module.specs.Kinds.{kind_of}
 use Rattle.qir_writer.proofs.Texts.{comma_joined_more}
 use Rattle.qir_writer.proofs.function.write_kinds.Goals as goal
 

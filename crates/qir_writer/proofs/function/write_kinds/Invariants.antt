@@ -1,7 +1,7 @@
 use Rattle.std.proofs.Common.{◌≡◌, ◌++◌, map, take}
 use Rattle.qir_module.specs.Text.{comma_joined}
 use Rattle.qir_module.specs.Written.{kind_text}
-use Rattle.qir_writer.specs.Parts.{kind_of}
+use Rattle.qir_module.specs.Kinds.{kind_of}
 use Rattle.qir_writer.proofs.function.write_kinds.Given as goal
 
 abbrev pub invariant-loop-index : goal.invariant-loop-index
