@@ -1,8 +1,12 @@
 pub mod Functions
+pub mod Grammar
 pub mod Items
 pub mod Kinds
 pub mod Machine
 pub mod Module
 pub mod Numbered
+pub mod Spoilt
 pub mod Text
+pub mod Tokens
+pub mod Words
 pub mod Written
