@@ -1,23 +1,25 @@
 -- The definitions of this crate at a module with a loop that is written out by hand: two phis that take each
 -- other's values, a measurement in each turn, and a record of the second behind it. And single instructions,
 -- as texts and on words at the ends of their range.
-use Rattle.std.specs.Prelude.{◌≡◌, refl, ℕ, ◌-◌, ◌^◌, Bool, true, false, List, [], ◌∷◌, ◌++◌, pos, negsuc, Some, None, codes}
+use Rattle.std.specs.Prelude.{◌≡◌, refl, ℕ, ◌-◌, ◌^◌, Bool, true, false, List, [], ◌∷◌, ◌++◌, ℤ, pos, negsuc, Option, Some, None, codes}
 use Rattle.std.specs.Fmt.{digits}
+use Rattle.qq_base.specs.declared.run.QubitId.{QubitId}
 use Rattle.qq_base.specs.declared.run.Event.{Event}
 use Rattle.qq_base.specs.declared.run.Event.TheVariants.{Measure}
 use Rattle.qq_base.specs.declared.run.Record.TheVariants.{Bool as BoolRecord}
-use Rattle.qq_base.specs.Seen.{Ended, Asked, Turning}
+use Rattle.qq_base.specs.Seen.{Ended, Asked, Turning, Stuck}
 use Rattle.qir_module.specs.declared.instruction.Operand.TheVariants.{Register, Fixed}
 use Rattle.qir_module.specs.declared.instruction.Opcode.TheVariants.{Add, Sdiv, Srem, Lshr, Ashr, Shl, Slt, Ult}
 use Rattle.qir_module.specs.declared.instruction.Arg.TheVariants.{Truth, Id, Text}
 use Rattle.qir_module.specs.declared.instruction.Instr.{Instr}
-use Rattle.qir_module.specs.declared.instruction.Instr.TheVariants.{Op, Zext, Trunc, Select}
+use Rattle.qir_module.specs.declared.instruction.Instr.TheVariants.{Op, Zext, Trunc, Select, Call}
 use Rattle.qir_module.specs.declared.instruction.Last.{Last}
 use Rattle.qir_module.specs.declared.instruction.Last.TheVariants.{Jump, Branch, Return}
 use Rattle.qir_module.specs.declared.block.Phi.{Phi}
 use Rattle.qir_module.specs.declared.block.Block.{Block}
 use Rattle.qir_module.specs.declared.profile.Profile.TheVariants.{Adaptive}
 use Rattle.qir_module.specs.Module.{Module}
+use Rattle.qir_module.specs.Text.{line}
 use Rattle.qir_module.specs.Written.{block_text, instr_text}
 use Rattle.qir_module.specs.Machine.{Word, Holds, on_words, machine_run}
 use Rattle.qir_module.specs.Items.{items_of}
