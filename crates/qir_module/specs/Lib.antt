@@ -5,6 +5,7 @@ pub mod Kinds
 pub mod Machine
 pub mod Module
 pub mod Numbered
+pub mod Reader
 pub mod Spoilt
 pub mod Text
 pub mod Tokens
