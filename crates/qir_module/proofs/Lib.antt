@@ -5,3 +5,4 @@ pub mod Worked
 mod WorkedBranch
 mod WorkedGates
 mod WorkedLoop
+mod WorkedTexts

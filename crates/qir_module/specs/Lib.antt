@@ -2,6 +2,7 @@ pub mod Functions
 pub mod Grammar
 pub mod Items
 pub mod Kinds
+pub mod Lexer
 pub mod Machine
 pub mod Module
 pub mod Numbered

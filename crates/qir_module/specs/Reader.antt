@@ -1,6 +1,6 @@
 -- Serves private contracts: the readers of lists of tokens that stand for the grammar's parts, and what they
 -- answer of a whole list. The code of the reader follows them, and laws say that they are right.
-use Rattle.std.specs.Prelude.{ℕ, suc, ◌&&◌, Bool, true, false, cond, not, nat_eq, ℤ, pos, List, [], ◌∷◌, ◌++◌, length, Option, Some, None, Result, Ok, Err}
+use Rattle.std.specs.Prelude.{ℕ, suc, ◌&&◌, Bool, true, false, cond, not, nat_eq, ℤ, List, [], ◌∷◌, ◌++◌, length, Option, Some, None, Result, Ok, Err}
 use Rattle.qq_base.specs.declared.refusal.Span.{Span}
 use Rattle.qir_module.specs.declared.instruction.Operand.{Operand}
 use Rattle.qir_module.specs.declared.instruction.Operand.TheVariants as o
@@ -17,11 +17,11 @@ use Rattle.qir_module.specs.declared.block.Block.{Block}
 use Rattle.qir_module.specs.declared.profile.Profile.{Profile}
 use Rattle.qir_module.specs.Module.{Module}
 use Rattle.grammar_parts.specs.Reading.{Refusal, syntax, deep, Outcome, Reader, done, ◌>>=◌, take_one, take_never, choose, take_many, take_repeated}
-use Rattle.grammar_parts.specs.Kinds.{among, by, take_mark}
+use Rattle.grammar_parts.specs.Kinds.{among, take_mark}
 use Rattle.qir_module.specs.Tokens.{TokenKind, Token, Breach}
 use Rattle.qir_module.specs.Words as w
 use Rattle.qir_module.specs.Words.{Reserved, Quoted, reserved_class, text_class, flag_text_class, group_class, flag_class, kind}
-use Rattle.qir_module.specs.Grammar.{number_at, small_at, register_at, target_at, block_at, constant_at, group_at, flag_at, bytes_at, reserved_at, text_at, name_at, and_then, arithmetic, logic, condition, numeral_in, passing, is_count, ends_in_zero, named_function, with_place, profile_named, stray_word, type_word, truth_number, given, Item, AsPhi, AsInstr, is_phi, phis_of, instrs_of, ValueType, WordType, TruthType, PointerType, Signature, is_right, all_right, Heading, Attributes, Flags, module_of}
+use Rattle.qir_module.specs.Grammar.{number_at, small_at, register_at, target_at, block_at, constant_at, group_at, flag_at, bytes_at, reserved_at, text_at, name_at, and_then, arithmetic, logic, condition, numeral_in, passing, is_count, ends_in_zero, named_function, with_place, profile_named, type_word, truth_number, given, Item, AsPhi, AsInstr, is_phi, phis_of, instrs_of, ValueType, WordType, TruthType, PointerType, Signature, is_right, all_right, Heading, Attributes, Flags, module_of}
 use Rattle.qir_module.specs.Spoilt.{rule_of_value, place_at, first_wrong}
 
 -- ---- the kinds of token that begin a part
