@@ -402,6 +402,21 @@ abbrev pub early_phi : Bool → ℕ → Part Token Item
 early_phi false r = never
 early_phi true r = then (phi r) (λ p. nothing (AsPhi p))
 
+-- ---- the ends of blocks
+
+abbrev pub label_target : Part Token ℕ
+label_target = word w.Label ▸ target
+
+abbrev pub branch : Part Token Last
+branch = word w.I1 ▸ then (operand true) (λ test. comma ▸ then label_target (λ x. comma ▸ then label_target (λ y. nothing (l.Branch test x y))))
+
+abbrev pub last : Part Token Last
+last =
+    either (word w.Br ▸ either (then label_target (λ x. nothing (l.Jump x))) branch)
+    (word w.Ret ▸ word w.I64 ▸ then number (λ z. nothing (l.Return z)))
+
+-- ---- items and blocks
+
 module _ (loose : Bool) where
   abbrev pub call : Option ℕ → Part Token Instr
   call r = word w.Call ▸ word (given r) ▸ then (function_name loose) (λ f. then (in_parens argument) (λ xs. nothing (i.Call r f.0 xs)))
@@ -419,17 +434,6 @@ module _ (loose : Bool) where
       (either (then (call None) (λ n. nothing (AsInstr n))) (stray loose))
 
   -- ---- blocks
-
-  abbrev pub label_target : Part Token ℕ
-  label_target = word w.Label ▸ target
-
-  abbrev pub branch : Part Token Last
-  branch = word w.I1 ▸ then (operand true) (λ test. comma ▸ then label_target (λ x. comma ▸ then label_target (λ y. nothing (l.Branch test x y))))
-
-  abbrev pub last : Part Token Last
-  last =
-      either (word w.Br ▸ either (then label_target (λ x. nothing (l.Jump x))) branch)
-      (word w.Ret ▸ word w.I64 ▸ then number (λ z. nothing (l.Return z)))
 
   abbrev pub items : Part Token (List Item)
   items = many item (λ phis x. phis && is_phi x) true
