@@ -1,5 +1,5 @@
 -- Which module the bytes of a text spell, and by which rule and where a text is refused that spells none.
-use Rattle.std.specs.Prelude.{◌≡◌, ℕ, true, false, cond, ◌⊎◌, List, [], ◌∷◌, ◌++◌, Ok, Err, Option, Some, None}
+use Rattle.std.specs.Prelude.{◌≡◌, ℕ, true, false, cond, Result, ◌⊎◌, List, [], ◌∷◌, ◌++◌, Ok, Err, Option, Some, None}
 use Rattle.qq_base.specs.declared.refusal.Span.{Span}
 use Rattle.qir_module.specs.Module.{Module}
 use Rattle.grammar_parts.specs.Reading.{Stops}
@@ -44,16 +44,17 @@ abbrev pub OnlyLoose : List Token → List Token → Type 0
 OnlyLoose front rest = (x : Token) × (more : List Token) × (rest ≡ x ∷ more) × (module_part true).begins (front ++ x ∷ [])
 
 module _ (text : List ℕ) where
-  -- Behind the longest front that begins a module, the rest is refused so.
+  -- Behind the longest front that begins a module, the rest is refused so. A case stands where none before it does.
+  -- (Behind a declaration that is not the table's the loose grammar goes on with no token either.)
   pub data FailsBy (front rest : List Token) (breach : Breach) : Type 0 where
-    -- SignatureWrong, at the name of the declaration
-    ByDeclaration : (s : Signature) → EndsWrong front s → breach ≡ record { rule = 9; at = s.at } → FailsBy front rest breach
-    -- TrailingText
-    ByMore : (m : Module) (x : Token) (more : List Token) → (module_part false).derives front m → rest ≡ x ∷ more → breach ≡ record { rule = 12; at = x.at } → FailsBy front rest breach
     -- only the value of the token is wrong
     ByValue : (x : Token) (more : List Token) → rest ≡ x ∷ more → (module_part true).begins (front ++ x ∷ []) → breach ≡ record { rule = rule_of_value x.kind; at = x.at } → FailsBy front rest breach
-    -- Syntax: nothing of this holds
-    Otherwise : ((s : Signature) → ¬ (EndsWrong front s)) → ((m : Module) → ¬ ((module_part false).derives front m)) → ¬ (OnlyLoose front rest) → breach ≡ record { rule = 5; at = place_at text rest } → FailsBy front rest breach
+    -- TrailingText
+    ByMore : ¬ (OnlyLoose front rest) → (m : Module) → (module_part false).derives front m → (x : Token) (more : List Token) → rest ≡ x ∷ more → breach ≡ record { rule = 12; at = x.at } → FailsBy front rest breach
+    -- SignatureWrong, at the name of the declaration
+    ByDeclaration : ¬ (OnlyLoose front rest) → ((m : Module) → ¬ ((module_part false).derives front m)) → (s : Signature) → EndsWrong front s → breach ≡ record { rule = 9; at = s.at } → FailsBy front rest breach
+    -- Syntax
+    Otherwise : ¬ (OnlyLoose front rest) → ((m : Module) → ¬ ((module_part false).derives front m)) → ((s : Signature) → ¬ (EndsWrong front s)) → breach ≡ record { rule = 5; at = place_at text rest } → FailsBy front rest breach
 
   -- the tokens are no module, by this rule and there
   pub record IsRefused (tokens : List Token) (breach : Breach) : Type 0 where
@@ -63,6 +64,11 @@ module _ (text : List ℕ) where
     pub begun : (module_part false).begins front
     pub longest : Stops (module_part false) front rest
     pub fails : FailsBy front rest breach
+
+  -- the tokens are this module, or are refused so
+  abbrev pub IsAnswer : List Token → Result Module Breach → Type 0
+  IsAnswer tokens (Ok m) = (module_part false).derives tokens m
+  IsAnswer tokens (Err breach) = IsRefused tokens breach
 
 -- The text spells no module, by this rule and there. The rules of tokens are asked over the whole text first.
 abbrev pub IsSpoilt : List ℕ → Breach → Type 0
