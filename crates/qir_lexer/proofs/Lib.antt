@@ -1,3 +1,4 @@
 mod Parts
+mod Runs
 mod Terminals
 mod Whole
