@@ -1,3 +1,4 @@
+mod Leads
 mod Parts
 mod Runs
 mod Terminals
