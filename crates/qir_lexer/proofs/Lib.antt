@@ -1,5 +1,6 @@
 mod Leads
 mod Parts
+mod Possible
 mod Runs
 mod Terminals
 mod Whole
