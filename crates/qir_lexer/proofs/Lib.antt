@@ -2,5 +2,6 @@ mod Leads
 mod Parts
 mod Possible
 mod Runs
+mod Steps
 mod Terminals
 mod Whole

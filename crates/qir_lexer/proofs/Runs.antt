@@ -91,3 +91,16 @@ closed_gives state (c ∷ cs) n e = at (is_outside state && (c == 34)) refl (may
         let r : Closes (behind state c) cs m.0 = later m.0 m.1 in
         subst (λ k. Closes state (c ∷ cs) k) (sym m.2) (record { rest = r.rest; split = ap (λ l. c ∷ l) r.split; body = ap (λ b. b && is_body (behind state c) (take m.0 cs)) g ∙ r.body; inside = omega (arith, r.inside) })
     at false f false g later = absurd (cc (closed_off state c cs f g, e))
+
+-- behind a run the text ends, or a character fails
+abbrev pub Stopped : (ℕ → Bool) → List ℕ → Type 0
+Stopped passes [] = Unit {0}
+Stopped passes (c ∷ cs) = passes c ≡ false
+
+pub run_stops : (passes : ℕ → Bool) (cs : List ℕ) → Stopped passes (drop (run passes cs) cs)
+run_stops passes [] = tt
+run_stops passes (c ∷ cs) = at (passes c) refl (run_stops passes cs)
+  where
+    at : (b : Bool) → passes c ≡ b → Stopped passes (drop (run passes cs) cs) → Stopped passes (drop (run passes (c ∷ cs)) (c ∷ cs))
+    at true e h = subst (λ n. Stopped passes (drop n (c ∷ cs))) (sym (run_on passes c cs e)) h
+    at false e h = subst (λ n. Stopped passes (drop n (c ∷ cs))) (sym (run_off passes c cs e)) e
