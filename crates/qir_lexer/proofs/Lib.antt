@@ -1,3 +1,4 @@
+mod LeadSteps
 mod Leads
 mod Parts
 mod Possible

@@ -48,7 +48,7 @@ module _ (text : List ℕ) where
 
   -- ---- each way to go on
 
-  drop_room : (skip m : ℕ) → 0 < m → m ≤ length (drop skip text) → skip + m ≤ length text
+  pub drop_room : (skip m : ℕ) → 0 < m → m ≤ length (drop skip text) → skip + m ≤ length text
   drop_room skip m p l = omega (arith, length-drop skip text, p, l)
 
   module _ (make : List ℕ → TokenKind) (skip : ℕ) (rest : Step) where
@@ -100,7 +100,7 @@ module _ (text : List ℕ) where
 
   -- ---- what is spelled
 
-  run_digits : (xs : List ℕ) (n : ℕ) → run is_ascii_digit xs ≡ suc n → AreDigits (take (suc n) xs)
+  pub run_digits : (xs : List ℕ) (n : ℕ) → run is_ascii_digit xs ≡ suc n → AreDigits (take (suc n) xs)
   run_digits xs n e = record {
     some = omega (arith, length-take-le (suc n) xs (omega (arith, run_le is_ascii_digit xs, e)));
     each = subst (λ m. list_all is_ascii_digit (take m xs) ≡ true) e (run_all is_ascii_digit xs);
@@ -132,14 +132,14 @@ module _ (text : List ℕ) where
 
   -- ---- why nothing stands
 
-  nothing_by : (c : ℕ) (cs : List ℕ) → text ≡ c ∷ cs → is_blank c ≡ false → (c == 59) ≡ false → (c == 34) ≡ false → NoToken text → BreaksBy text 2
+  pub nothing_by : (c : ℕ) (cs : List ℕ) → text ≡ c ∷ cs → is_blank c ≡ false → (c == 59) ≡ false → (c == 34) ≡ false → NoToken text → BreaksBy text 2
   nothing_by c cs e a b d none = inl (refl, (c, cs, e, a, b, d, none))
 
-heads_is : (k : ℕ) (xs : List ℕ) → heads (λ d. d == k) xs ≡ true → (ys : List ℕ) × (xs ≡ k ∷ ys)
+pub heads_is : (k : ℕ) (xs : List ℕ) → heads (λ d. d == k) xs ≡ true → (ys : List ℕ) × (xs ≡ k ∷ ys)
 heads_is k [] h = absurd (cc)
 heads_is k (c ∷ cs) h = (cs, ap (λ d. d ∷ cs) (eqb-true c k h))
 
-digits_ahead : (xs : List ℕ) (n : ℕ) → run is_ascii_digit xs ≡ suc n → heads is_ascii_digit xs ≡ true
+pub digits_ahead : (xs : List ℕ) (n : ℕ) → run is_ascii_digit xs ≡ suc n → heads is_ascii_digit xs ≡ true
 digits_ahead [] n e = absurd (cc)
 digits_ahead (c ∷ cs) n e = at (is_ascii_digit c) refl
   where
@@ -148,10 +148,10 @@ digits_ahead (c ∷ cs) n e = at (is_ascii_digit c) refl
     at false h = absurd (cc (run_off is_ascii_digit c cs h, e))
 
 -- no word and no quote where a digit stands
-digit_no_name : (xs : List ℕ) → heads is_ascii_digit xs ≡ true → heads begins_word xs ≡ true → ⊥
+pub digit_no_name : (xs : List ℕ) → heads is_ascii_digit xs ≡ true → heads begins_word xs ≡ true → ⊥
 digit_no_name [] h g = cc
 digit_no_name (c ∷ cs) h g = cc (digit_no_word c h, g)
 
-other_head : (p : ℕ → Bool) (k : ℕ) (xs : List ℕ) → p k ≡ false → heads p xs ≡ true → heads (λ d. d == k) xs ≡ true → ⊥
+pub other_head : (p : ℕ → Bool) (k : ℕ) (xs : List ℕ) → p k ≡ false → heads p xs ≡ true → heads (λ d. d == k) xs ≡ true → ⊥
 other_head p k [] f h g = cc
 other_head p k (c ∷ cs) f h g = cc (ap p (eqb-true c k g), h, f)
