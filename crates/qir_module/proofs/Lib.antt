@@ -6,3 +6,4 @@ mod WorkedBranch
 mod WorkedGates
 mod WorkedLoop
 mod WorkedTexts
+mod WorkedRules

@@ -1,3 +1,5 @@
+pub mod Broken
+pub mod Carried
 pub mod Functions
 pub mod Grammar
 pub mod Items
@@ -8,6 +10,8 @@ pub mod Module
 pub mod Numbered
 pub mod Reader
 pub mod Spoilt
+pub mod Passes
+pub mod Spots
 pub mod Text
 pub mod Tokens
 pub mod Words
