@@ -2,7 +2,7 @@
 
 ghost use Rattle.std.specs.Prelude.{◌≡◌, ◌+◌, ◌-◌, ◌^◌, ◌<◌, ◌≤◌, ◌↔◌, ◌⊎◌, [], min, length, Contains, IfOk, IsErr, IsTrue, OnErr, Some, is_ok, if◌then◌else◌};
 ghost use Rattle.std.specs.Io.KnownBytes.{WriteAppends};
-ghost use Rattle.qq_streams.specs.Faults.{HasRisen};
+ghost use Rattle.qq_streams.specs.Faults.{HasRisen, raised};
 
 use crate::failing::is_failing;
 use crate::sink::{Sink, SinkFault};
@@ -96,7 +96,7 @@ impl Sink for MemorySink {
         ensures calls { self.new.calls ≡ min (self.old.calls + 1) (2 ^ 64 - 1) }
         ensures failing { self.new.failing ≡ self.old.failing }
         ensures kept { (self.new.room ≡ self.old.room) × (self.new.piece ≡ self.old.piece) }
-        ensures faults { self.new.faults ≡ (if is_ok result then self.old.faults else min (self.old.faults + 1) (2 ^ 64 - 1)) }
+        ensures faults { self.new.faults ≡ (if is_ok result then self.old.faults else raised self.old.faults) }
     {
         let call = self.calls;
         self.calls = self.calls.saturating_add(1);

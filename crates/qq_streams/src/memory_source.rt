@@ -2,7 +2,7 @@
 
 ghost use Rattle.std.specs.Prelude.{◌≡◌, ◌+◌, ◌-◌, ◌^◌, ◌≤◌, ◌↔◌, min, length, Contains, IfOk, IsErr, OnErr, Some, is_ok, if◌then◌else◌};
 ghost use Rattle.std.specs.Io.KnownBytes.{ReadConsumes};
-ghost use Rattle.qq_streams.specs.Faults.{HasRisen};
+ghost use Rattle.qq_streams.specs.Faults.{HasRisen, raised};
 
 use crate::failing::is_failing;
 use crate::source::{Source, SourceFault};
@@ -64,7 +64,7 @@ impl Source for MemorySource {
         ensures moves { IfOk result (λ n. n ≡ min (length piece.old) (length self.old.left)) }
         ensures calls { self.new.calls ≡ min (self.old.calls + 1) (2 ^ 64 - 1) }
         ensures failing { self.new.failing ≡ self.old.failing }
-        ensures faults { self.new.faults ≡ (if is_ok result then self.old.faults else min (self.old.faults + 1) (2 ^ 64 - 1)) }
+        ensures faults { self.new.faults ≡ (if is_ok result then self.old.faults else raised self.old.faults) }
     {
         let call = self.calls;
         self.calls = self.calls.saturating_add(1);
