@@ -1,11 +1,38 @@
-//! Laws of tokens. No program calls these functions; each has an empty body, and its contract is the law.
+//! Laws of tokens. No program calls these functions, and the contract of each is the law. All but
+//! `texts_have_a_reading` have an empty body.
 
-ghost use Rattle.std.specs.Prelude.{◌≡◌, ℕ, false, List, Result, Ok};
+ghost use Rattle.std.specs.Prelude.{◌≡◌, ℕ, ◌≤◌, false, List, Result, Ok, length};
 ghost use Rattle.qq_base.specs.declared.refusal.Refusal.{Refusal};
 ghost use Rattle.qasm_lexer.specs.Pieces.{Piece, text_of, AreApart, AreWritten};
 ghost use Rattle.qasm_lexer.specs.Sizes.{AreBounded};
 ghost use Rattle.qasm_lexer.specs.Tokens.{Tokens};
 ghost use Rattle.qasm_lexer.specs.declared.token.Token.{Token};
+
+use crate::lexer::{MOST_BYTES, end_of, next_token, opens_version};
+
+/// A list of bytes has a reading, whatever they are: its tokens, or its first refusal. It is found by going
+/// from token to token.
+pub fn texts_have_a_reading(bytes: &[u8])
+    requires { length bytes.now ≤ MOST_BYTES }
+    ensures { (reading : Result (List Token) Refusal) × Tokens bytes.now reading }
+{
+    let Ok(text) = str::from_utf8(bytes) else {
+        return;
+    };
+    let mut from = 0;
+    let mut version = false;
+    loop {
+        let at = end_of(&bytes[..from]);
+        match next_token(text, from, at, version) {
+            Ok(Some(token)) => {
+                from = token.end as usize;
+                version = opens_version(token.kind);
+            }
+            Ok(None) => return,
+            Err(_) => return,
+        }
+    }
+}
 
 /// A text has one reading: its tokens, or its first refusal.
 pub fn texts_have_one_reading()

@@ -78,7 +78,7 @@ pub fn next_token(
 }
 
 /// Whether a version may stand behind the token.
-fn opens_version(kind: TokenKind) -> bool
+pub fn opens_version(kind: TokenKind) -> bool
     ensures { result ≡ opens_version kind }
 {
     matches!(kind, TokenKind::Word(Keyword::OpenQasm))

@@ -16,6 +16,8 @@ mod tables;
 mod tests;
 mod token;
 
-pub use laws::{texts_have_one_reading, tokens_are_bounded, written_tokens_are_read};
+pub use laws::{
+    texts_have_a_reading, texts_have_one_reading, tokens_are_bounded, written_tokens_are_read,
+};
 pub use lexer::{MOST_BYTES, end_of, lex, next_token};
 pub use token::{Keyword, Mark, Token, TokenKind};
