@@ -9,7 +9,7 @@ use Rattle.std.proofs.lemmas.Bool.Decides.{nat_tests}
 use Rattle.std.proofs.lemmas.List.Sums.{length-filter, count_by-le-length}
 use Rattle.std.proofs.lemmas.Fmt.{digits_decimal, digits_value-decimal, decimal_nonempty}
 use Rattle.qasm_lexer.specs.Characters.{is_blank, is_digit_in, continues_name}
-use Rattle.qasm_lexer.specs.Spelling.{IsNameLike, IsWord, IsWhole, Decimal, IsTooLarge, is_numeral}
+use Rattle.qasm_lexer.specs.Spelling.{IsNameLike, IsWord, IsWhole, Decimal, IsTooLarge}
 use Rattle.qasm_lexer.specs.Scan.{StopsAt}
 use Rattle.qasm_lexer.specs.Tokens.{opens_version}
 use Rattle.qasm_lexer.specs.Tables.{word_spelling, mark_spelling}

@@ -1,10 +1,12 @@
 -- What the top call may answer, and what it has then done to its streams.
-use Rattle.std.specs.Prelude.{ℕ, ◌≡◌, ◌≢◌, ◌<◌, ◌≤◌, ◌⊎◌, List, [], ◌++◌, length, Option, Some, None}
+use Rattle.std.specs.Prelude.{ℕ, ◌≡◌, ◌≢◌, ◌<◌, ◌≤◌, ◌⊎◌, List, [], ◌++◌, length, Option, Some, None, IsSome}
 use Rattle.std.specs.Io.KnownBytes.{Appends, Keeps}
 use Rattle.qq_streams.specs.Faults.{HasRisen}
 use Rattle.qq_tool.specs.declared.command.Command.{Command}
 use Rattle.qq_tool.specs.declared.command.Command.TheVariants.{Compile, Check}
-use Rattle.qq_tool.specs.Refused.{source_limit}
+use Rattle.qq_tool.specs.declared.status.Status.{Status}
+use Rattle.qq_tool.specs.declared.status.Status.TheVariants.{Success, Refused, BadWords, ReadFault, WriteFault, OutOfMemory}
+use Rattle.qq_tool.specs.Command.{input_limit}
 use Rattle.qq_tool.specs.Due.{Texts, Due}
 
 -- ---- what a call does to a stream
@@ -34,63 +36,58 @@ AddsPart c text = (part : List ℕ) × (rest : List ℕ) × (text ≡ part ++ re
 abbrev pub AddsNothing : Change → Type 0
 AddsNothing c = Keeps c.before c.after
 
+-- An input of which so many bytes are taken at most was read: nothing is left, or, where there are more bytes
+-- than that, a front that is longer is gone, and the rest is left.
+pub record IsRead (most : ℕ) (bytes : List ℕ) (left : Option (List ℕ)) : Type 0 where
+  pub whole : length bytes ≤ most → left ≡ Some []
+  pub front : most < length bytes → (front : List ℕ) × (rest : List ℕ) × (bytes ≡ front ++ rest) × (most < length front) × (left ≡ Some rest)
+
 -- ---- answers
 
 -- every status but those of a read fault, a write fault and want of memory
-abbrev pub IsDueStatus : ℕ → Type 0
-IsDueStatus status = (status ≢ 3) × (status ≢ 4) × (status ≢ 5)
+abbrev pub IsDueStatus : Status → Type 0
+IsDueStatus status = (status ≢ ReadFault) × (status ≢ WriteFault) × (status ≢ OutOfMemory)
 
 -- What was written, where `due` says which status goes with which texts.
-pub record Tells (due : ℕ → Texts → Type 0) (out err : Change) (status : ℕ) : Type 0 where
+pub record Tells (due : Status → Texts → Type 0) (out err : Change) (status : Status) : Type 0 where
   -- what is due was written, whole
   pub done : IsDueStatus status → (texts : Texts) × due status texts × Adds out texts.out × Adds err texts.err
   -- behind a write fault each sink took a part of what was due
-  pub part : status ≡ 4 → (other : ℕ) × (texts : Texts) × due other texts × AddsPart out texts.out × AddsPart err texts.err
+  pub part : status ≡ WriteFault → (other : Status) × (texts : Texts) × due other texts × AddsPart out texts.out × AddsPart err texts.err
 
 -- What holds of the sinks whatever was due.
-pub record Writes (out err : Change) (status : ℕ) : Type 0 where
+pub record Writes (out err : Change) (status : Status) : Type 0 where
   -- a refusal leaves `out` as it was, and a success leaves `err`
-  pub refused : status ≡ 1 → AddsNothing out
-  pub succeeded : status ≡ 0 → AddsNothing err
+  pub refused : status ≡ Refused → AddsNothing out
+  pub succeeded : status ≡ Success → AddsNothing err
   -- a write fault comes only where a count of faults rose
-  pub write_fault : status ≡ 4 → IsFaulty out ⊎ IsFaulty err
+  pub write_fault : status ≡ WriteFault → IsFaulty out ⊎ IsFaulty err
   -- behind a read fault and for want of memory nothing was written
-  pub read_fault : status ≡ 3 → AddsNothing out × AddsNothing err
-  pub memory : status ≡ 5 → AddsNothing out × AddsNothing err
+  pub read_fault : status ≡ ReadFault → AddsNothing out × AddsNothing err
+  pub memory : status ≡ OutOfMemory → AddsNothing out × AddsNothing err
 
--- words that are no command read nothing
 abbrev pub IsReading : Option Command → Type 0
-IsReading None = ⊥
-IsReading (Some Compile) = Unit {0}
-IsReading (Some Check) = Unit {0}
+IsReading command = IsSome (input_limit command)
 
 -- The bytes are the input of the command; where it reads nothing, any bytes are.
 abbrev pub IsInput : Option Command → Option (List ℕ) → List ℕ → Type 0
-IsInput None left bytes = Unit {0}
-IsInput (Some Compile) left bytes = left ≡ Some bytes
-IsInput (Some Check) left bytes = left ≡ Some bytes
-
--- the input has no more bytes than the command takes
-abbrev pub IsShort : Option Command → List ℕ → Type 0
-IsShort None bytes = Unit {0}
-IsShort (Some Compile) bytes = length bytes ≤ source_limit
-IsShort (Some Check) bytes = length bytes ≤ source_limit
+IsInput command left bytes = IsReading command → left ≡ Some bytes
 
 -- Words that are no command have only their own status or that of a write fault, and no command has theirs.
-abbrev pub IsStatusOf : Option Command → ℕ → Type 0
-IsStatusOf None status = (status ≡ 2) ⊎ (status ≡ 4)
-IsStatusOf (Some Compile) status = (status ≤ 5) × (status ≢ 2)
-IsStatusOf (Some Check) status = (status ≤ 5) × (status ≢ 2)
+abbrev pub IsStatusOf : Option Command → Status → Type 0
+IsStatusOf None status = (status ≡ BadWords) ⊎ (status ≡ WriteFault)
+IsStatusOf (Some Compile) status = status ≢ BadWords
+IsStatusOf (Some Check) status = status ≢ BadWords
 
 -- The answer of the top call to a command. Where a stream does not tell its bytes, nothing is said of them,
 -- and the rest stands.
-pub record IsAnswer (command : Option Command) (input out err : Change) (status : ℕ) : Type 0 where
+pub record IsAnswer (command : Option Command) (input out err : Change) (status : Status) : Type 0 where
   -- what is due for the words and the input
   pub tells : (bytes : List ℕ) → IsInput command input.before bytes → Tells (Due command bytes) out err status
   pub writes : Writes out err status
-  -- the input of a command that reads is read to its end, unless it is too long
-  pub used_up : status < 2 → IsReading command → (bytes : List ℕ) → input.before ≡ Some bytes → IsShort command bytes → input.after ≡ Some []
+  -- the input of a command that reads was read, unless something failed
+  pub read : IsDueStatus status → (most : ℕ) (bytes : List ℕ) → input_limit command ≡ Some most → input.before ≡ Some bytes → IsRead most bytes input.after
   -- a read fault comes only where the command reads and the count of faults rose
-  pub read_fault : status ≡ 3 → IsReading command × IsFaulty input
+  pub read_fault : status ≡ ReadFault → IsReading command × IsFaulty input
   -- there is no other status
   pub statuses : IsStatusOf command status

@@ -6,5 +6,6 @@ pub mod Laws
 pub mod Lowered
 pub mod Reading
 pub mod Refused
+pub mod Status
 pub mod Thin
 pub mod ThinRun

@@ -5,18 +5,14 @@ use Rattle.qq_base.specs.declared.rule.Rule.{Rule}
 use Rattle.qq_base.specs.declared.rule.Rule.TheVariants.{NotBuilt, InputTooLong}
 use Rattle.qq_base.specs.declared.refusal.Refusal.{Refusal}
 use Rattle.qq_base.specs.Rule.{number_of, name_of}
-use Rattle.qasm_lexer.specs.declared.lexer.TheConstants.{MOST_BYTES}
 use Rattle.qasm_lexer.specs.declared.token.Token.{Token}
 use Rattle.qasm_lexer.specs.Tokens.{Tokens}
 use Rattle.qasm_ast.specs.Tree.{Statements}
 use Rattle.qasm_grammar.specs.Whole.{IsProgramOf}
 use Rattle.qasm_grammar.specs.Stops.{IsRefused as AreRefused}
 use Rattle.qir_module.specs.Text.{line}
+use Rattle.qq_tool.specs.Command.{source_limit}
 use Rattle.qq_tool.specs.Thin.{IsThinText}
-
--- the greatest number of bytes of a source text: 4,194,304
-abbrev pub source_limit : ℕ
-source_limit = MOST_BYTES
 
 abbrev pub at_start : Rule → Refusal
 at_start rule = record { rule = rule; at = record { line = 1; column = 1 } }

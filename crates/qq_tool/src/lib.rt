@@ -14,6 +14,7 @@ pub mod laws;
 mod lower;
 mod read;
 mod refusal_text;
+mod status;
 mod tell;
 mod thin;
 mod tool;

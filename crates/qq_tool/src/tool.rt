@@ -2,32 +2,25 @@
 
 ghost use Rattle.std.specs.Prelude.{◌≡◌, ◌≢◌, ◌≤◌, ◌⊎◌, List, ℕ, length, map, Some, IsNone, IfOk, string_bytes};
 ghost use Rattle.qq_base.specs.declared.refusal.Refusal.{Refusal};
+ghost use Rattle.qq_tool.specs.declared.status.Status.{Status};
 ghost use Rattle.qq_tool.specs.Answer.{change, Tells, Writes, IsAnswer, IsFaulty, Adds, AddsPart, AddsNothing};
-ghost use Rattle.qq_tool.specs.Command.{command_of as command_in};
+ghost use Rattle.qq_tool.specs.Command.{command_of as command_in, input_limit};
 ghost use Rattle.qq_tool.specs.Due.{Due, IsOutput};
 ghost use Rattle.qq_tool.specs.Refused.{IsRefused, refusal_line};
+ghost use Rattle.qq_tool.specs.Status.{code_of};
 ghost use Rattle.qq_tool.specs.Thin.{IsThinText};
 
 use crate::check::{at_start, checked};
 use crate::command::{Command, command_of};
 use crate::compile::compiled;
 use crate::refusal_text::refusal_text;
+use crate::status::Status;
 use crate::tell::tell;
 use crate::thin::ThinProgram;
 use qasm_lexer::MOST_BYTES;
 use qq_base::{Fault, NoMemory, Refusal, Rule};
 use qq_streams::{ReadAllFault, Sink, Source, read_all};
 use std::alloc::Global;
-
-const SUCCESS: u8 = 0;
-
-const REFUSED: u8 = 1;
-
-const BAD_WORDS: u8 = 2;
-
-const READ_FAULT: u8 = 3;
-
-const NO_MEMORY: u8 = 5;
 
 /// The greatest number of bytes of a source text.
 const SOURCE_LIMIT: u64 = MOST_BYTES as u64;
@@ -45,7 +38,8 @@ const SOURCE_LIMIT: u64 = MOST_BYTES as u64;
 /// | 4 | only where the count of `out` or `err` rose in this call; each took a prefix of its due text |
 /// | 5 | for want of memory, never where the words are no command; nothing is written |
 ///
-/// Each "exactly where" yields to 3, 4 and 5. `IsAnswer` of `specs/Answer.antt` has the whole clause, and
+/// Each "exactly where" yields to 3, 4 and 5. At 0 and 1 the input was read to its end, or, where it is
+/// refused for its length, past its limit. `IsAnswer` of `specs/Answer.antt` has the whole clause, and
 /// `Due` of `specs/Due.antt` what is due: for `compile` the canonical text of a module that runs exactly as
 /// the source does, and for both the refusal of `IsRefused` in `specs/Refused.antt`.
 pub fn run_tool<S: Source, O: Sink, E: Sink>(
@@ -55,18 +49,35 @@ pub fn run_tool<S: Source, O: Sink, E: Sink>(
     out: &mut O,
     err: &mut E,
 ) -> u8
-    ensures answer { IsAnswer (command_in (map string_bytes words.now))
+    ensures answer { (status : Status) × (result ≡ code_of status) × IsAnswer (command_in (map string_bytes words.now))
         (change (S.left input.old) (S.left input.new) (S.faults input.old) (S.faults input.new))
         (change (O.taken out.old) (O.taken out.new) (O.faults out.old) (O.faults out.new))
-        (change (E.taken err.old) (E.taken err.new) (E.faults err.old) (E.faults err.new)) result }
-    // Words that are no command read nothing.
-    ensures unread { IsNone (command_in (map string_bytes words.now)) → input.new ≡ input.old }
+        (change (E.taken err.old) (E.taken err.new) (E.faults err.old) (E.faults err.new)) status }
+    // Words that name no command that reads leave the input as it was.
+    ensures unread { IsNone (input_limit (command_in (map string_bytes words.now))) → input.new ≡ input.old }
     // No text that is accepted is refused, and none that is refused is accepted.
     ensures accepted { (bytes : List ℕ) → S.left input.old ≡ Some bytes → IsThinText bytes → result ≢ 1 }
     ensures refused { (bytes : List ℕ) (refusal : Refusal) → S.left input.old ≡ Some bytes → IsRefused bytes refusal → result ≢ 0 }
 {
+    respond(alloc, words, input, out, err).code()
+}
+
+/// Does what the words say.
+fn respond<S: Source, O: Sink, E: Sink>(
+    alloc: Global,
+    words: &[String],
+    input: &mut S,
+    out: &mut O,
+    err: &mut E,
+) -> Status
+    ensures answer { IsAnswer (command_in (map string_bytes words.now))
+        (change (S.left input.old) (S.left input.new) (S.faults input.old) (S.faults input.new))
+        (change (O.taken out.old) (O.taken out.new) (O.faults out.old) (O.faults out.new))
+        (change (E.taken err.old) (E.taken err.new) (E.faults err.old) (E.faults err.new)) result }
+    ensures unread { IsNone (input_limit (command_in (map string_bytes words.now))) → input.new ≡ input.old }
+{
     match command_of(words) {
-        None => tell(err, b"bad words\n", BAD_WORDS),
+        None => tell(err, b"bad words\n", Status::BadWords),
         Some(command) => perform(alloc, command, input, out, err),
     }
 }
@@ -78,7 +89,7 @@ fn perform<S: Source, O: Sink, E: Sink>(
     input: &mut S,
     out: &mut O,
     err: &mut E,
-) -> u8
+) -> Status
     ensures { IsAnswer (Some command)
         (change (S.left input.old) (S.left input.new) (S.faults input.old) (S.faults input.new))
         (change (O.taken out.old) (O.taken out.new) (O.faults out.old) (O.faults out.new))
@@ -87,8 +98,8 @@ fn perform<S: Source, O: Sink, E: Sink>(
     match read_all(alloc, input, SOURCE_LIMIT) {
         Ok(source) => answer(alloc, command, &source, out, err),
         Err(ReadAllFault::TooLong) => report(alloc, at_start(Rule::InputTooLong), err),
-        Err(ReadAllFault::ReadFault) => READ_FAULT,
-        Err(ReadAllFault::Memory) => NO_MEMORY,
+        Err(ReadAllFault::ReadFault) => Status::ReadFault,
+        Err(ReadAllFault::Memory) => Status::OutOfMemory,
     }
 }
 
@@ -99,7 +110,7 @@ fn answer<O: Sink, E: Sink>(
     source: &[u8],
     out: &mut O,
     err: &mut E,
-) -> u8
+) -> Status
     requires { length source.now ≤ MOST_BYTES }
     ensures tells { Tells (Due (Some command) source.now)
         (change (O.taken out.old) (O.taken out.new) (O.faults out.old) (O.faults out.new))
@@ -107,15 +118,15 @@ fn answer<O: Sink, E: Sink>(
     ensures writes { Writes
         (change (O.taken out.old) (O.taken out.new) (O.faults out.old) (O.faults out.new))
         (change (E.taken err.old) (E.taken err.new) (E.faults err.old) (E.faults err.new)) result }
-    ensures statuses { (result ≤ 5) × (result ≢ 2) × (result ≢ 3) }
+    ensures statuses { (result ≢ Status.BadWords) × (result ≢ Status.ReadFault) }
 {
     match checked(alloc, source) {
         Ok(program) => match output_of(alloc, command, &program) {
-            Ok(text) => tell(out, &text, SUCCESS),
-            Err(NoMemory) => NO_MEMORY,
+            Ok(text) => tell(out, &text, Status::Success),
+            Err(NoMemory) => Status::OutOfMemory,
         },
         Err(Fault::Refused(refusal)) => report(alloc, refusal, err),
-        Err(Fault::Memory) => NO_MEMORY,
+        Err(Fault::Memory) => Status::OutOfMemory,
     }
 }
 
@@ -129,16 +140,16 @@ fn output_of(alloc: Global, command: Command, program: &ThinProgram) -> Result<V
     }
 }
 
-/// Reports a refusal, and answers 1, or 4 where a write failed, or 5 for want of memory.
-fn report<E: Sink>(alloc: Global, refusal: Refusal, err: &mut E) -> u8
-    ensures answer { (result ≡ 1) ⊎ (result ≡ 4) ⊎ (result ≡ 5) }
-    ensures whole { result ≡ 1 → Adds (change (E.taken err.old) (E.taken err.new) (E.faults err.old) (E.faults err.new)) (refusal_line refusal) }
-    ensures part { result ≡ 4 → AddsPart (change (E.taken err.old) (E.taken err.new) (E.faults err.old) (E.faults err.new)) (refusal_line refusal) }
-    ensures fault { result ≡ 4 → IsFaulty (change (E.taken err.old) (E.taken err.new) (E.faults err.old) (E.faults err.new)) }
-    ensures memory { result ≡ 5 → AddsNothing (change (E.taken err.old) (E.taken err.new) (E.faults err.old) (E.faults err.new)) }
+/// Reports a refusal, unless a write failed or there was no memory.
+fn report<E: Sink>(alloc: Global, refusal: Refusal, err: &mut E) -> Status
+    ensures answer { (result ≡ Status.Refused) ⊎ (result ≡ Status.WriteFault) ⊎ (result ≡ Status.OutOfMemory) }
+    ensures whole { result ≡ Status.Refused → Adds (change (E.taken err.old) (E.taken err.new) (E.faults err.old) (E.faults err.new)) (refusal_line refusal) }
+    ensures part { result ≡ Status.WriteFault → AddsPart (change (E.taken err.old) (E.taken err.new) (E.faults err.old) (E.faults err.new)) (refusal_line refusal) }
+    ensures fault { result ≡ Status.WriteFault → IsFaulty (change (E.taken err.old) (E.taken err.new) (E.faults err.old) (E.faults err.new)) }
+    ensures memory { result ≡ Status.OutOfMemory → AddsNothing (change (E.taken err.old) (E.taken err.new) (E.faults err.old) (E.faults err.new)) }
 {
     match refusal_text(alloc, refusal) {
-        Ok(line) => tell(err, &line, REFUSED),
-        Err(_) => NO_MEMORY,
+        Ok(line) => tell(err, &line, Status::Refused),
+        Err(_) => Status::OutOfMemory,
     }
 }

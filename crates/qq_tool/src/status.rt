@@ -1,0 +1,30 @@
+//! How a call of the program ends.
+
+ghost use Rattle.std.specs.Prelude.{◌≡◌};
+ghost use Rattle.qq_tool.specs.Status.{code_of};
+
+/// How a call ended. The program's users see the number beside it.
+#[derive(Clone, Copy, Debug, PartialEq, Eq)]
+pub enum Status {
+    /// The whole text of the command was written.
+    Success = 0,
+    /// The input is refused.
+    Refused = 1,
+    /// The words are no command.
+    BadWords = 2,
+    /// A read failed.
+    ReadFault = 3,
+    /// A write failed.
+    WriteFault = 4,
+    /// There was no memory.
+    OutOfMemory = 5,
+}
+
+impl Status {
+    /// Its number.
+    pub fn code(self) -> u8
+        ensures { result ≡ code_of self }
+    {
+        self as u8
+    }
+}
