@@ -1,3 +1,4 @@
+mod Decided
 mod Lengths
 mod Lines
 mod Loop

@@ -34,6 +34,12 @@ IsRefused bytes refusal =
     ((source_limit < length bytes) × (refusal ≡ at_start InputTooLong))
     ⊎ ((length bytes ≤ source_limit) × (BreaksRule bytes refusal ⊎ (IsProgramText bytes × ¬ IsThinText bytes × (refusal ≡ at_start NotBuilt))))
 
+-- The text is accepted, and no rule refuses it; or it is not, and one rule does, at one place.
+abbrev pub IsDecided : List ℕ → Type 0
+IsDecided bytes =
+    (IsThinText bytes × ((refusal : Refusal) → ¬ IsRefused bytes refusal))
+    ⊎ (¬ IsThinText bytes × (refusal : Refusal) × IsRefused bytes refusal × ((other : Refusal) → IsRefused bytes other → other ≡ refusal))
+
 -- a number below 100 in two digits
 abbrev pub two_digits : ℕ → List ℕ
 two_digits n = (48 + n / 10) ∷ (48 + n % 10) ∷ []

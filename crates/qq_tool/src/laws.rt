@@ -1,5 +1,4 @@
-//! Laws over all texts and all runs. No program calls these functions; each has an empty body, and its
-//! contract is the law.
+//! Laws over all texts and all runs. No program calls these functions, and the contract of each is the law.
 
 ghost use Rattle.std.specs.Prelude.{◌≡◌, ℕ, List};
 ghost use Rattle.qir_module.specs.Machine.{machine_run};
@@ -7,9 +6,22 @@ ghost use Rattle.qir_module.specs.Module.{Module};
 ghost use Rattle.qq_base.specs.declared.refusal.Refusal.{Refusal};
 ghost use Rattle.qq_tool.specs.Compiled.{Implements};
 ghost use Rattle.qq_tool.specs.Laws.{EndedRunsStay, UnfinishedRunsGoOn};
-ghost use Rattle.qq_tool.specs.Refused.{IsRefused, IsProgramText};
+ghost use Rattle.qq_tool.specs.Refused.{IsRefused, IsProgramText, IsDecided};
 ghost use Rattle.qq_tool.specs.ThinRun.{source_run};
 ghost use Rattle.qq_tool.specs.Thin.{Thin, Spells, IsThinText};
+
+use qasm_grammar::answers_are_right;
+use qasm_lexer::{MOST_BYTES, texts_have_a_reading};
+
+/// Each list of bytes is accepted, or refused by one rule at one place, and not both.
+pub fn texts_are_decided(bytes: &[u8])
+    ensures { IsDecided bytes.now }
+{
+    if bytes.len() <= MOST_BYTES {
+        texts_have_a_reading(bytes);
+        answers_are_right();
+    }
+}
 
 /// A text spells one thin program at most.
 pub fn one_program()
