@@ -1,5 +1,5 @@
--- The module of one block that a thin program is lowered to: calls alone, in the order of the program's
--- lines, and then the records of its bits.
+-- This serves private contracts alone: the module of one block that a thin program is lowered to, with calls in the
+-- order of the program's lines, and then the records of its bits. What a lowered module has to do is `Implements`.
 use Rattle.std.specs.Prelude.{ℕ, suc, Bool, true, false, List, [], ◌∷◌, ◌++◌, length, replicate, slice_set, pos, Some, None}
 use Rattle.std.specs.List.{list_any}
 use Rattle.qir_module.specs.declared.instruction.Operand.{Operand}

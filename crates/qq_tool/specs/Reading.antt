@@ -1,6 +1,6 @@
--- Reading a thin text from left to right, for the private functions of the reader. Each of these gives the
--- value that stands in front and the bytes behind it, or nothing where no such value stands there. That they
--- read just the texts of `Thin` is proved in `proofs/Texts.antt`.
+-- This serves private contracts alone: reading a thin text from left to right, as the functions of the reader do. Each
+-- definition gives the value that stands in front and the bytes behind it, or nothing where no such value stands
+-- there. That they read just the texts of `Thin` is proved in `proofs/Texts.antt`.
 use Rattle.std.specs.Prelude.{ℕ, zero, suc, ◌≡◌, nat_eq, nat_le, nat_lt, if◌then◌else◌, Bool, true, false, not, ◌&&◌, List, [], ◌∷◌, length, drop, take_while, Option, Some, None, codes}
 use Rattle.std.specs.Char.{is_ascii_digit}
 use Rattle.std.specs.List.{prefix_len}
