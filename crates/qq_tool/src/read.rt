@@ -265,76 +265,77 @@ mod tests {
         )
     }
 
-    #[test]
-    fn refused_declarations(rt: HostRuntime) -> Result<(), Fail> {
-        for text in [
-            "",
-            "OPENQASM 3.0;\n",
-            "OPENQASM 3;\ninclude \"stdgates.inc\";\nqubit[1] q;\nbit[1] c;\n",
-            " OPENQASM 3.0;\ninclude \"stdgates.inc\";\nqubit[1] q;\nbit[1] c;\n",
-            "OPENQASM 3.0;\r\ninclude \"stdgates.inc\";\r\nqubit[1] q;\r\nbit[1] c;\r\n",
-            "OPENQASM 3.0;\n\ninclude \"stdgates.inc\";\nqubit[1] q;\nbit[1] c;\n",
-            "OPENQASM 3.0;\nqubit[1] q;\nbit[1] c;\n",
-        ] {
-            assert!(rt; read_thin(rt.alloc(), text.as_bytes())?.is_none());
-        }
-        for behind in [
-            "qubit[0] q;\nbit[1] c;\n",
-            "qubit[1025] q;\nbit[1] c;\n",
-            "qubit[01] q;\nbit[1] c;\n",
-            "qubit[] q;\nbit[1] c;\n",
-            "qubit[+1] q;\nbit[1] c;\n",
-            "qubit q;\nbit[1] c;\n",
-            "qubit[1] r;\nbit[1] c;\n",
-            "qubit[1] q;\nbit[0] c;\n",
-            "qubit[1] q;\nbit[4097] c;\n",
-            "qubit[1] q;\nbit[10000] c;\n",
-            "qubit[1] q;\nbit[99999999999999999999] c;\n",
-            "qubit[1] q;\n",
-            "bit[1] c;\nqubit[1] q;\n",
-            "qubit[1] q;\nbit[1] c;",
-        ] {
-            let text = format!(in rt.alloc(); "{FRONT}{behind}")?;
-            assert!(rt; read_thin(rt.alloc(), text.as_bytes())?.is_none());
+    /// Texts that are not thin, with `\n` for the end of a line and `\r` for CR: whole ones, ones behind the first
+    /// two lines, and ones behind the declarations of two qubits and three bits.
+    const NO_TEXTS: &str = r#"
+OPENQASM 3.0;\n
+OPENQASM 3;\ninclude "stdgates.inc";\nqubit[1] q;\nbit[1] c;\n
+ OPENQASM 3.0;\ninclude "stdgates.inc";\nqubit[1] q;\nbit[1] c;\n
+OPENQASM 3.0;\r\ninclude "stdgates.inc";\r\nqubit[1] q;\r\nbit[1] c;\r\n
+OPENQASM 3.0;\n\ninclude "stdgates.inc";\nqubit[1] q;\nbit[1] c;\n
+OPENQASM 3.0;\nqubit[1] q;\nbit[1] c;\n"#;
+
+    const NO_DECLARATIONS: &str = r#"qubit[0] q;\nbit[1] c;\n
+qubit[1025] q;\nbit[1] c;\n
+qubit[01] q;\nbit[1] c;\n
+qubit[] q;\nbit[1] c;\n
+qubit[+1] q;\nbit[1] c;\n
+qubit q;\nbit[1] c;\n
+qubit[1] r;\nbit[1] c;\n
+qubit[1] q;\nbit[0] c;\n
+qubit[1] q;\nbit[4097] c;\n
+qubit[1] q;\nbit[10000] c;\n
+qubit[1] q;\nbit[99999999999999999999] c;\n
+qubit[1] q;\n
+bit[1] c;\nqubit[1] q;\n
+qubit[1] q;\nbit[1] c;"#;
+
+    const NO_LINES: &str = r#"h q[0];
+h q[0];\r\n
+h  q[0];\n
+ h q[0];\n
+h q[0]; \n
+h q[0] ;\n
+h q[00];\n
+h q[2];\n
+h q;\n
+H q[0];\n
+y q[0];\n
+x q[2];\n
+cx q[0], q[0];\n
+cx q[0],q[1];\n
+cx q[2], q[1];\n
+cx q[0], q[2];\n
+cx q[0];\n
+c[3] = measure q[0];\n
+c[0] = measure q[2];\n
+c[0]=measure q[0];\n
+measure q[0] -> c[0];\n
+measure q[0];\n
+\n
+h q[0];\n// the end\n
+h q[0];\n\n
+h q[0];\nx
+h q[0];x q[1];\n"#;
+
+    /// Each row is no thin text behind this front.
+    fn refuses_each(rt: &impl Abort, alloc: Global, front: &str, table: &str) -> Result<(), Fail> {
+        for row in table.lines() {
+            let behind = row.replace(alloc, "\\n", "\n")?;
+            let behind = behind.as_str().replace(alloc, "\\r", "\r")?;
+            let text = format!(in alloc; "{front}{behind}")?;
+            assert!(rt; read_thin(alloc, text.as_bytes())?.is_none(), "{row}");
         }
         Ok(())
     }
 
     #[test]
-    fn refused_lines(rt: HostRuntime) -> Result<(), Fail> {
-        for line in [
-            "h q[0];",
-            "h q[0];\r\n",
-            "h  q[0];\n",
-            " h q[0];\n",
-            "h q[0]; \n",
-            "h q[0] ;\n",
-            "h q[00];\n",
-            "h q[2];\n",
-            "h q;\n",
-            "H q[0];\n",
-            "y q[0];\n",
-            "x q[2];\n",
-            "cx q[0], q[0];\n",
-            "cx q[0],q[1];\n",
-            "cx q[2], q[1];\n",
-            "cx q[0], q[2];\n",
-            "cx q[0];\n",
-            "c[3] = measure q[0];\n",
-            "c[0] = measure q[2];\n",
-            "c[0]=measure q[0];\n",
-            "measure q[0] -> c[0];\n",
-            "measure q[0];\n",
-            "\n",
-            "h q[0];\n// the end\n",
-            "h q[0];\n\n",
-            "h q[0];\nx",
-            "h q[0];x q[1];\n",
-        ] {
-            let text = format!(in rt.alloc(); "{FRONT}qubit[2] q;\nbit[3] c;\n{line}")?;
-            assert!(rt; read_thin(rt.alloc(), text.as_bytes())?.is_none());
-        }
-        Ok(())
+    fn refused(rt: HostRuntime) -> Result<(), Fail> {
+        let alloc = rt.alloc();
+        refuses_each(&rt, alloc, "", NO_TEXTS)?;
+        refuses_each(&rt, alloc, FRONT, NO_DECLARATIONS)?;
+        let declared = format!(in alloc; "{FRONT}qubit[2] q;\nbit[3] c;\n")?;
+        refuses_each(&rt, alloc, declared.as_str(), NO_LINES)
     }
 
     #[test]

@@ -95,6 +95,68 @@ attributes #1 = { "irreversible" }
 
 const NOT_BUILT: &str = "refused Q00 NotBuilt at 1:1\n";
 
+/// The text that a word of a table stands for.
+fn text_of(word: &str) -> &'static str {
+    match word {
+        "bell_pair" => BELL_PAIR,
+        "bell_pair_qir" => BELL_PAIR_QIR,
+        "nothing_done" => NOTHING_DONE,
+        "nothing_done_qir" => NOTHING_DONE_QIR,
+        "one_qubit" => "qubit q;\n",
+        "question_mark" => "?",
+        "ok" => "ok\n",
+        "bad_words" => "bad words\n",
+        "not_built" => NOT_BUILT,
+        "bad_character" => "refused Q03 BadCharacter at 1:1\n",
+        _ => "",
+    }
+}
+
+/// What is answered: the command, the input, the status, and the texts on `out` and on `err`.
+const ANSWERS: &str = "\
+compile bell_pair 0 bell_pair_qir nothing
+compile nothing_done 0 nothing_done_qir nothing
+compile nothing 1 nothing not_built
+compile one_qubit 1 nothing not_built
+check bell_pair 0 ok nothing
+check nothing_done 0 ok nothing
+check nothing 1 nothing not_built
+verify bell_pair 2 nothing bad_words";
+
+/// Source texts that are refused by a rule of tokens: the refusal, and the text with `\n` for the end of a line.
+const REFUSED_BY_TOKENS: &str = r#"Q03 BadCharacter at 1:3 <- a ?
+Q04 OpenComment at 1:12 <- int x = 1; /* a
+Q05 OpenString at 1:1 <- "a'
+Q06 LiteralRange at 1:1 <- $4294967296
+Q07 FloatLiteral at 1:4 <- rz(0.5*pi) q;
+Q07 FloatLiteral at 2:13 <- include "stdgates.inc";\nqubit q; rz(0.5*pi) q;
+Q03 BadCharacter at 2:1 <- int x = ;\n?"#;
+
+/// The same of the rules of programs, and of programs that are not built yet.
+const REFUSED_BY_PROGRAMS: &str = r#"Q09 Syntax at 1:9 <- int x = ;
+Q09 Syntax at 1:6 <- int x
+Q09 Syntax at 1:11 <- if (true) else
+Q10 Version at 1:15 <- OPENQASM 3.0; OPENQASM 3.0;
+Q11 LeftOut at 1:1 <- float x;
+Q12 Include at 1:9 <- include "q.inc";
+Q00 NotBuilt at 1:1 <- int x = 1_000; // c
+Q00 NotBuilt at 1:1 <- bit π1;"#;
+
+/// Calls of which each read fails in turn: the command, the input, the number of reads, and the status where none fails.
+const READS: &str = "\
+compile bell_pair 2 0
+compile nothing 1 1
+check bell_pair 2 0";
+
+/// Calls of which each write fails in turn: the command, the input, the texts on `out` and on `err`, and how many
+/// bytes a sink takes at once.
+const WRITES: &str = "\
+compile bell_pair bell_pair_qir nothing 16
+compile nothing nothing not_built 5
+check bell_pair ok nothing 2
+check question_mark nothing bad_character 5
+no_command nothing nothing bad_words 3";
+
 /// What a call answered and wrote.
 #[derive(Drop)]
 struct Answer {
@@ -141,21 +203,17 @@ fn copies(alloc: Global, byte: u8, count: usize) -> Result<Vec<u8>, Fail> {
 
 #[test]
 fn texts_are_those_written_by_hand(rt: HostRuntime) -> Result<(), Fail> {
-    for (word, source, status, out, err) in [
-        ("compile", BELL_PAIR, 0, BELL_PAIR_QIR, ""),
-        ("compile", NOTHING_DONE, 0, NOTHING_DONE_QIR, ""),
-        ("compile", "", 1, "", NOT_BUILT),
-        ("compile", "qubit q;\n", 1, "", NOT_BUILT),
-        ("check", BELL_PAIR, 0, "ok\n", ""),
-        ("check", NOTHING_DONE, 0, "ok\n", ""),
-        ("check", "", 1, "", NOT_BUILT),
-        ("verify", BELL_PAIR, 2, "", "bad words\n"),
-        ("", BELL_PAIR, 2, "", "bad words\n"),
-    ] {
+    for row in ANSWERS.lines() {
+        let mut words = row.split_whitespace();
+        let word = words.next().ok_or("no command")?;
+        let source = text_of(words.next().ok_or("no input")?);
+        let status: u8 = words.next().ok_or("no status")?.parse()?;
+        let out = text_of(words.next().ok_or("no text for out")?);
+        let err = text_of(words.next().ok_or("no text for err")?);
         let answer = run(rt.alloc(), word, source.as_bytes(), &SOUND)?;
-        assert_eq!(rt; answer.status, status, "{word}");
-        assert_eq!(rt; answer.out.bytes(), out.as_bytes(), "{word}");
-        assert_eq!(rt; answer.err.bytes(), err.as_bytes(), "{word}");
+        assert_eq!(rt; answer.status, status, "{row}");
+        assert_eq!(rt; answer.out.bytes(), out.as_bytes(), "{row}");
+        assert_eq!(rt; answer.err.bytes(), err.as_bytes(), "{row}");
     }
     Ok(())
 }
@@ -181,6 +239,17 @@ fn refuses(rt: &impl Abort, alloc: Global, source: &[u8], line: &str) -> Result<
     Ok(())
 }
 
+/// Both commands refuse each text of a table.
+fn refuses_each(rt: &impl Abort, alloc: Global, table: &str) -> Result<(), Fail> {
+    for row in table.lines() {
+        let (refusal, source) = row.split_once(" <- ").ok_or("no row")?;
+        let source = source.replace(alloc, "\\n", "\n")?;
+        let line = format!(in alloc; "refused {refusal}\n")?;
+        refuses(rt, alloc, source.as_bytes(), line.as_str())?;
+    }
+    Ok(())
+}
+
 #[test]
 fn an_input_over_the_limit_is_refused_as_such(rt: HostRuntime) -> Result<(), Fail> {
     let alloc = rt.alloc();
@@ -195,42 +264,13 @@ fn an_input_over_the_limit_is_refused_as_such(rt: HostRuntime) -> Result<(), Fai
 fn texts_are_refused_by_the_rules_of_tokens(rt: HostRuntime) -> Result<(), Fail> {
     let alloc = rt.alloc();
     refuses(&rt, alloc, &[255], "refused Q02 NotUtf8 at 1:1\n")?;
-    for (source, line) in [
-        ("a ?", "refused Q03 BadCharacter at 1:3\n"),
-        ("int x = 1; /* a", "refused Q04 OpenComment at 1:12\n"),
-        ("\"a'", "refused Q05 OpenString at 1:1\n"),
-        ("$4294967296", "refused Q06 LiteralRange at 1:1\n"),
-        ("rz(0.5*pi) q;", "refused Q07 FloatLiteral at 1:4\n"),
-        (
-            "include \"stdgates.inc\";\nqubit q; rz(0.5*pi) q;",
-            "refused Q07 FloatLiteral at 2:13\n",
-        ),
-        // A fault of the tokens comes before one of the program.
-        ("int x = ;\n?", "refused Q03 BadCharacter at 2:1\n"),
-    ] {
-        refuses(&rt, alloc, source.as_bytes(), line)?;
-    }
-    Ok(())
+    refuses_each(&rt, alloc, REFUSED_BY_TOKENS)
 }
 
 #[test]
 fn texts_are_refused_by_the_rules_of_programs(rt: HostRuntime) -> Result<(), Fail> {
     let alloc = rt.alloc();
-    for (source, line) in [
-        ("int x = ;", "refused Q09 Syntax at 1:9\n"),
-        ("int x", "refused Q09 Syntax at 1:6\n"),
-        ("if (true) else", "refused Q09 Syntax at 1:11\n"),
-        (
-            "OPENQASM 3.0; OPENQASM 3.0;",
-            "refused Q10 Version at 1:15\n",
-        ),
-        ("float x;", "refused Q11 LeftOut at 1:1\n"),
-        ("include \"q.inc\";", "refused Q12 Include at 1:9\n"),
-        ("int x = 1_000; // c", NOT_BUILT),
-        ("bit π1;", NOT_BUILT),
-    ] {
-        refuses(&rt, alloc, source.as_bytes(), line)?;
-    }
+    refuses_each(&rt, alloc, REFUSED_BY_PROGRAMS)?;
     // With a blank in it a thin text is none, and it is a program.
     let spaced = format!(in alloc; "{BELL_PAIR}x q[0]; \n")?;
     refuses(&rt, alloc, spaced.as_bytes(), NOT_BUILT)?;
@@ -259,11 +299,12 @@ fn two_million_brackets_are_refused_at_the_limit(rt: HostRuntime) -> Result<(), 
 
 #[test]
 fn each_read_fails_in_turn(rt: HostRuntime) -> Result<(), Fail> {
-    for (word, source) in [
-        ("compile", BELL_PAIR),
-        ("compile", ""),
-        ("check", BELL_PAIR),
-    ] {
+    for row in READS.lines() {
+        let mut words = row.split_whitespace();
+        let word = words.next().ok_or("no command")?;
+        let source = text_of(words.next().ok_or("no input")?);
+        let reads: u32 = words.next().ok_or("no number of reads")?.parse()?;
+        let sound: u8 = words.next().ok_or("no status")?.parse()?;
         for call in 0..3u32 {
             let failing = [call];
             let streams = Streams {
@@ -271,48 +312,57 @@ fn each_read_fails_in_turn(rt: HostRuntime) -> Result<(), Fail> {
                 ..SOUND
             };
             let answer = run(rt.alloc(), word, source.as_bytes(), &streams)?;
-            // One read gives the text and one its end; an empty text is at its end at once.
-            let reads = if source.is_empty() { 1 } else { 2 };
-            let sound = if source.is_empty() { 1 } else { 0 };
-            assert_eq!(rt; answer.status, if call < reads { 3 } else { sound });
+            assert_eq!(rt;
+                answer.status,
+                if call < reads { 3 } else { sound },
+                "{row}"
+            );
             if call < reads {
-                assert!(rt; answer.out.bytes().is_empty());
-                assert!(rt; answer.err.bytes().is_empty());
+                assert!(rt; answer.out.bytes().is_empty(), "{row}");
+                assert!(rt; answer.err.bytes().is_empty(), "{row}");
             }
         }
     }
     Ok(())
 }
 
+/// The call of the sinks with this number fails: what is written is what went before it.
+fn fails_at(rt: &impl Abort, alloc: Global, row: &str, call: u32) -> Result<bool, Fail> {
+    let mut words = row.split_whitespace();
+    let word = words.next().ok_or("no command")?;
+    let source = text_of(words.next().ok_or("no input")?);
+    let out = text_of(words.next().ok_or("no text for out")?);
+    let err = text_of(words.next().ok_or("no text for err")?);
+    let piece: usize = words.next().ok_or("no size of a piece")?.parse()?;
+    let failing = [call];
+    let streams = Streams {
+        input: &[],
+        out: &failing,
+        err: &failing,
+        piece,
+    };
+    let answer = run(alloc, word, source.as_bytes(), &streams)?;
+    let written = (call as usize).saturating_mul(piece);
+    let ends = written >= out.len().max(err.len());
+    assert_eq!(rt; answer.status == 4, !ends, "call {call} of {row}");
+    assert_eq!(rt;
+        answer.out.bytes(),
+        &out.as_bytes()[..written.min(out.len())]
+    );
+    assert_eq!(rt;
+        answer.err.bytes(),
+        &err.as_bytes()[..written.min(err.len())]
+    );
+    Ok(ends)
+}
+
 #[test]
 fn each_write_fails_in_turn(rt: HostRuntime) -> Result<(), Fail> {
-    for (word, source, out, err, piece) in [
-        ("compile", BELL_PAIR, BELL_PAIR_QIR, "", 16usize),
-        ("compile", "", "", NOT_BUILT, 5),
-        ("check", BELL_PAIR, "ok\n", "", 2),
-        ("check", "?", "", "refused Q03 BadCharacter at 1:1\n", 5),
-        ("no command", "", "", "bad words\n", 3),
-    ] {
-        let due = out.len() + err.len();
-        for call in 0..due / piece + 1 {
-            let failing = [call as u32];
-            let streams = Streams {
-                input: &[],
-                out: &failing,
-                err: &failing,
-                piece,
-            };
-            let answer = run(rt.alloc(), word, source.as_bytes(), &streams)?;
-            let written = (call * piece).min(due);
-            assert_eq!(rt; answer.status == 4, written < due, "call {call} of {word}");
-            assert_eq!(rt;
-                answer.out.bytes(),
-                &out.as_bytes()[..written.min(out.len())]
-            );
-            assert_eq!(rt;
-                answer.err.bytes(),
-                &err.as_bytes()[..written.min(err.len())]
-            );
+    for row in WRITES.lines() {
+        for call in 0..1000 {
+            if fails_at(&rt, rt.alloc(), row, call)? {
+                break;
+            }
         }
     }
     Ok(())
