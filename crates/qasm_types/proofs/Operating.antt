@@ -121,18 +121,18 @@ module _ (a b : Ty) (u v : ℤ) (p : Ty × Ty × Ty) where
   quotient_rows e = ⊎_elim
       (λ h. let (m, q, is) = words_rows a b u v p h in (at_one row.Quotient m (row.QuotientOfWords a b m u v q) is, at_one row.Product m (row.ProductOfWords a b m u v q) is))
       (λ h.
-          let (test, is) = where_true_cases (scales a b) (a, b, a) p h in
-          let rows = scaled_rows a b u v test in
-          (subst (RowAt row.Quotient a u b v) is rows.0, subst (RowAt row.Product a u b v) is rows.1))
+      let (test, is) = where_true_cases (scales a b) (a, b, a) p h in
+      let rows = scaled_rows a b u v test in
+      (subst (RowAt row.Quotient a u b v) is rows.0, subst (RowAt row.Product a u b v) is rows.1))
       (or_cases (words_plan a u b v) (where_true (scales a b) (a, b, a)) p e)
 
   product_rows : product_plan a u b v ≡ Some p → RowAt row.Product a u b v p
   product_rows e = ⊎_elim
       (λ h. (quotient_rows h).1)
       (λ h.
-          let (test, is) = where_true_cases (scales b a) (a, b, b) p h in
-          let rows = scaled_rows b a v u test in
-          subst (RowAt row.Product a u b v) is rows.2)
+      let (test, is) = where_true_cases (scales b a) (a, b, b) p h in
+      let rows = scaled_rows b a v u test in
+      subst (RowAt row.Product a u b v) is rows.2)
       (or_cases (quotient_plan a u b v) (where_true (scales b a) (a, b, b)) p e)
 
   rest_rows : rest_plan a u b v ≡ Some p → RowAt row.Rest a u b v p × RowAt row.Bitwise a u b v p

@@ -2,5 +2,5 @@ pub mod Types
 pub mod Casts
 pub mod Words
 pub mod Operators
+pub mod OpPlan
 pub mod Plans
-pub mod Shown

@@ -87,7 +87,6 @@ pub data HasRow : Group → Ty → ℤ → Ty → ℤ → Ty → Ty → Ty → T
   SumOfAngles : (a b m : Ty) (u v : ℤ) → AnglesAt a b m → HasRow Sum a u b v m m m
   SumOfTurns : (a b : Ty) (u v : ℤ) → AreTurns a b → HasRow Sum a u b v t.Turn t.Turn t.Turn
   SumOfConstants : (a b m : Ty) (u v : ℤ) → AreConstants a b m → HasRow Sum a u b v m m m
-
   -- `*`: two words; an angle and a word or a whole constant, either way; a turn and a whole constant, either way; constants
   ProductOfWords : (a b m : Ty) (u v : ℤ) → MeetAt a u b v m → HasRow Product a u b v m m m
   AngleTimes : (n : ℕ) (b : Ty) (u v : ℤ) → IsNumber b → HasRow Product (t.Angle n) u b v (t.Angle n) b (t.Angle n)
@@ -97,23 +96,19 @@ pub data HasRow : Group → Ty → ℤ → Ty → ℤ → Ty → Ty → Ty → T
   ProductOfWholes : (u v : ℤ) → HasRow Product t.Whole u t.Whole v t.Whole t.Whole t.Whole
   FractionTimes : (u v : ℤ) → HasRow Product t.Pi u t.Whole v t.Pi t.Whole t.Pi
   TimesFraction : (u v : ℤ) → HasRow Product t.Whole u t.Pi v t.Whole t.Pi t.Pi
-
   -- `/`: a word or an angle by a divisor; a turn, a whole constant or a fraction by a whole constant
   QuotientOfWords : (a b m : Ty) (u v : ℤ) → MeetAt a u b v m → HasRow Quotient a u b v m m m
   AngleOver : (n : ℕ) (b : Ty) (u v : ℤ) → IsNumber b → HasRow Quotient (t.Angle n) u b v (t.Angle n) b (t.Angle n)
   TurnOver : (u v : ℤ) → HasRow Quotient t.Turn u t.Whole v t.Turn t.Whole t.Turn
   QuotientOfWholes : (u v : ℤ) → HasRow Quotient t.Whole u t.Whole v t.Whole t.Whole t.Whole
   FractionOver : (u v : ℤ) → HasRow Quotient t.Pi u t.Whole v t.Pi t.Whole t.Pi
-
   -- `%`: a word by a divisor; whole constants
   RestOfWords : (a b m : Ty) (u v : ℤ) → MeetAt a u b v m → HasRow Rest a u b v m m m
   RestOfWholes : (u v : ℤ) → HasRow Rest t.Whole u t.Whole v t.Whole t.Whole t.Whole
-
   -- `<<` and `>>`: a word, a register of bits or an angle by an amount, at its own type; a whole constant
   Shifted : (a b : Ty) (u v : ℤ) → IsShifted a → IsNumber b → HasRow Shift a u b v a b a
   ConstantShifted : (b : Ty) (u v : ℤ) → IsWord b → HasRow Shift t.Whole u b v (constant_beside b u) b (constant_beside b u)
   ShiftOfWholes : (u v : ℤ) → HasRow Shift t.Whole u t.Whole v t.Whole t.Whole t.Whole
-
   -- `&`, `|` and `^`: two words; two registers of one width; two of `bit` and `bool`; one of these as `uint[1]` with a word or a whole constant; whole constants
   BitwiseOnWords : (a b m : Ty) (u v : ℤ) → MeetAt a u b v m → HasRow Bitwise a u b v m m m
   BitwiseOnBits : (n : ℕ) (u v : ℤ) → HasRow Bitwise (t.Bits n) u (t.Bits n) v (t.Bits n) (t.Bits n) (t.Bits n)
@@ -121,29 +116,24 @@ pub data HasRow : Group → Ty → ℤ → Ty → ℤ → Ty → Ty → Ty → T
   TruthAndWord : (a b m : Ty) (u v : ℤ) → IsTruth a → MeetAt (t.Uint 1) u b v m → HasRow Bitwise a u b v m m m
   WordAndTruth : (a b m : Ty) (u v : ℤ) → IsTruth b → MeetAt a u (t.Uint 1) v m → HasRow Bitwise a u b v m m m
   BitwiseOnWholes : (u v : ℤ) → HasRow Bitwise t.Whole u t.Whole v t.Whole t.Whole t.Whole
-
   -- `==` and `!=`: two words; two of `bit` and `bool`; two registers of one width; two angles; constants
   EqualWords : (a b m : Ty) (u v : ℤ) → MeetAt a u b v m → HasRow Equality a u b v m m t.Bool
   EqualTruth : (a b : Ty) (u v : ℤ) → IsTruth a → IsTruth b → HasRow Equality a u b v t.Bit t.Bit t.Bool
   EqualBits : (n : ℕ) (u v : ℤ) → HasRow Equality (t.Bits n) u (t.Bits n) v (t.Bits n) (t.Bits n) t.Bool
   EqualAngles : (a b m : Ty) (u v : ℤ) → AnglesAt a b m → HasRow Equality a u b v m m t.Bool
   EqualConstants : (a b m : Ty) (u v : ℤ) → AreConstants a b m → HasRow Equality a u b v m m t.Bool
-
   -- `<`, `<=`, `>` and `>=`: two words; two registers of one width of at most 64, as `uint[n]`; two angles, by count; constants
   OrderOfWords : (a b m : Ty) (u v : ℤ) → MeetAt a u b v m → HasRow Order a u b v m m t.Bool
   OrderOfBits : (n : ℕ) (u v : ℤ) → n ≤ 64 → HasRow Order (t.Bits n) u (t.Bits n) v (t.Uint (max n 1)) (t.Uint (max n 1)) t.Bool
   OrderOfAngles : (a b m : Ty) (u v : ℤ) → AnglesAt a b m → HasRow Order a u b v m m t.Bool
   OrderOfConstants : (a b m : Ty) (u v : ℤ) → AreConstants a b m → HasRow Order a u b v m m t.Bool
-
   -- all six comparisons: `bit`, `bool` or a register of at most 64 bits, as a word, with a word or a whole constant
   EqualMixed : (n : ℕ) (a b m : Ty) (u v : ℤ) → IsTakenAs a n → MeetAt (t.Uint n) u b v m → HasRow Equality a u b v m m t.Bool
   MixedEqual : (n : ℕ) (a b m : Ty) (u v : ℤ) → IsTakenAs b n → MeetAt a u (t.Uint n) v m → HasRow Equality a u b v m m t.Bool
   OrderMixed : (n : ℕ) (a b m : Ty) (u v : ℤ) → IsTakenAs a n → MeetAt (t.Uint n) u b v m → HasRow Order a u b v m m t.Bool
   MixedOrder : (n : ℕ) (a b m : Ty) (u v : ℤ) → IsTakenAs b n → MeetAt a u (t.Uint n) v m → HasRow Order a u b v m m t.Bool
-
   -- `&&` and `||`: what casts to `bool`
   LogicOnCasts : (a b : Ty) (u v : ℤ) → HasCast a u t.Bool → HasCast b v t.Bool → HasRow Logic a u b v t.Bool t.Bool t.Bool
-
   -- `**`: whole constants
   PowerOfWholes : (u v : ℤ) → HasRow Power t.Whole u t.Whole v t.Whole t.Whole t.Whole
 
@@ -151,13 +141,11 @@ pub data HasRow : Group → Ty → ℤ → Ty → ℤ → Ty → Ty → Ty → T
 pub data HasUnaryRow : UnaryOp → Ty → ℤ → Ty → Type 0 where
   -- `!`: what casts to `bool`
   NotOnCasts : (a : Ty) (v : ℤ) → HasCast a v t.Bool → HasUnaryRow unary.Not a v t.Bool
-
   -- `~`: a word, `bit`, a register of bits, a whole constant
   ComplementOfWord : (a : Ty) (v : ℤ) → IsWord a → HasUnaryRow unary.Complement a v a
   ComplementOfBit : (v : ℤ) → HasUnaryRow unary.Complement t.Bit v t.Bit
   ComplementOfBits : (n : ℕ) (v : ℤ) → HasUnaryRow unary.Complement (t.Bits n) v (t.Bits n)
   ComplementOfWhole : (v : ℤ) → HasUnaryRow unary.Complement t.Whole v t.Whole
-
   -- `-`: a word, an angle, a turn, a whole constant, a fraction of pi
   NegativeOfWord : (a : Ty) (v : ℤ) → IsWord a → HasUnaryRow unary.Negate a v a
   NegativeOfAngle : (n : ℕ) (v : ℤ) → HasUnaryRow unary.Negate (t.Angle n) v (t.Angle n)

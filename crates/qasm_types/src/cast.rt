@@ -58,7 +58,7 @@ fn angle_casts_to(width: u32, to: Ty) -> bool
     ensures { result ≡ angle_casts width to }
 {
     match to {
-        Ty::Bits(n) => n == width,
+        Ty::Bits(n) => width == n,
         Ty::Bool | Ty::Angle(_) => true,
         _ => false,
     }

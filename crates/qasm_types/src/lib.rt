@@ -1,10 +1,28 @@
-// Types.
+// The types of expressions, and the two tables of the language: which casts there are, and at which types each operator
+// takes its operands.
+//
+// It stands on `qasm_ast` for the operators, and on `word_arith` for the values of a word type. No call takes memory or
+// refuses.
+//
+// The layers above use:
+//
+// - of `cast_of`, that it is true exactly where the table of casts has the row (`HasCast` in `specs/Casts.antt`);
+// - of `operator_type` and `unary_type`, that an answer is a row of the table of operators and each row is the answer
+//   (`row`), so that None comes exactly where there is no row (`none`): `HasRow` and `HasUnaryRow` in
+//   `specs/Operators.antt`, with the word type at which operands meet in `specs/Words.antt`;
+// - of `cells`, the number of a variable's cells;
+// - that the types of an `Operand` and of an `OpPlan` are types of the language (`IsType` in `specs/Types.antt`): a word's
+//   width is from 1 to 64, an angle's from 1 to 32.
+//
+// `Ty` is a plain enum, of which such a fact cannot be said in its declaration; it is part of the structs that hold one.
 #![tactic(auto)]
 
 mod cast;
 mod operand;
 mod operator;
 mod plan;
+#[cfg(test)]
+mod tests;
 mod ty;
 mod word;
 

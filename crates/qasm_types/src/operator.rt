@@ -6,9 +6,7 @@ ghost use Rattle.qasm_types.specs.declared.ty.Ty.{Ty};
 ghost use Rattle.qasm_types.specs.Types.{IsType};
 ghost use Rattle.qasm_types.specs.Operators.{group_of, HasRow, HasUnaryRow};
 ghost use Rattle.qasm_types.specs.Plans.{operator_plan, unary_plan as unary_types, complements as complements_test, negates as negates_test};
-ghost use Rattle.qasm_types.specs.Shown.{types_of, Takes};
-
-use qasm_ast::{BinaryOp, UnaryOp};
+ghost use Rattle.qasm_types.specs.OpPlan.{types_of, Takes};
 
 use crate::cast::has_cast;
 use crate::operand::{OpPlan, Operand};
@@ -17,6 +15,7 @@ use crate::plan::{
     shift_plan, sum_plan, wholes_plan,
 };
 use crate::ty::Ty;
+use qasm_ast::{BinaryOp, UnaryOp};
 
 /// The types at which an operator takes its operands, and that of its result; or None where the operands have no such
 /// operator.

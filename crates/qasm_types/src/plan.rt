@@ -3,7 +3,7 @@ ghost use Rattle.std.specs.Prelude.{◌≡◌, ℕ, ◌≤◌, ◌&&◌, Bool, t
 ghost use Rattle.std.specs.Option.{option_map, option_or};
 ghost use Rattle.qasm_types.specs.Types.{IsType};
 ghost use Rattle.qasm_types.specs.Plans.{compared as compared_types, angles_plan as angles_types, turns_plan as turns_types, scales as scales_test, shifts as shifts_test, wholes_plan as wholes_types, constant_shift as constant_shift_types, bits_plan as bits_types, numbers_plan as numbers_types, truth_with_word as truth_types, bits_with_word as bits_word_types, sum_plan as sum_types, product_plan as product_types, quotient_plan as quotient_types, rest_plan as rest_types, shift_plan as shift_types, bitwise_plan as bitwise_types, compared_plan as comparison_types, equality_plan as equality_types, order_plan as order_types, logic_plan as logic_types};
-ghost use Rattle.qasm_types.specs.Shown.{types_of};
+ghost use Rattle.qasm_types.specs.OpPlan.{types_of};
 
 use crate::cast::has_cast;
 use crate::operand::{OpPlan, Operand};
@@ -52,11 +52,11 @@ pub(crate) fn rest_plan(left: Operand, right: Operand) -> Option<OpPlan>
 pub(crate) fn shift_plan(left: Operand, right: Operand) -> Option<OpPlan>
     ensures { option_map types_of result ≡ shift_types left.ty left.whole right.ty right.whole }
 {
-    if shifts(left.ty, right.ty) {
-        Some(OpPlan::of(left, right, left.ty))
-    } else {
-        constant_shift(left, right)
+    if !shifts(left.ty, right.ty) {
+        return constant_shift(left, right);
     }
+    let shifted = left.ty;
+    Some(OpPlan::of(left, right, shifted))
 }
 
 /// `&`, `|` and `^`.

@@ -4,12 +4,11 @@ ghost use Rattle.std.specs.Option.{option_map};
 ghost use Rattle.qasm_types.specs.Types.{IsType, IsWord};
 ghost use Rattle.qasm_types.specs.Words.{meeting as meeting_of, constant_beside as constant_type, is_value_of};
 ghost use Rattle.qasm_types.specs.Plans.{met, taken_beside as taken_type, words_plan as words_types};
-ghost use Rattle.qasm_types.specs.Shown.{types_of};
-
-use word_arith::{WordTy, is_value};
+ghost use Rattle.qasm_types.specs.OpPlan.{types_of};
 
 use crate::operand::{OpPlan, Operand};
 use crate::ty::Ty;
+use word_arith::{WordTy, is_value};
 
 /// The plan of two operands that are words, one of which may be a whole constant: both at the type at which they meet.
 pub(crate) fn words_plan(left: Operand, right: Operand) -> Option<OpPlan>

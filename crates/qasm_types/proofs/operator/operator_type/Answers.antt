@@ -3,7 +3,7 @@ use Rattle.std.specs.Option.{option_map}
 use Rattle.qasm_types.specs.declared.ty.Ty.{Ty}
 use Rattle.qasm_types.specs.declared.operand.OpPlan.{OpPlan}
 use Rattle.qasm_types.specs.Operators.{group_of}
-use Rattle.qasm_types.specs.Shown.{types_of, Takes}
+use Rattle.qasm_types.specs.OpPlan.{types_of, Takes}
 use Rattle.qasm_types.proofs.Choices.{some_is}
 use Rattle.qasm_types.proofs.Planning.{plan_from_row}
 use Rattle.qasm_types.proofs.Operating.{row_from_plan}
@@ -23,9 +23,10 @@ pub returns-clause-row : goal.returns-clause-row
 returns-clause-row c l r m =
     let g = group_of c.args.op in
     let a = c.args.left in
-    let b = c.args.right in
-    (λ h. takes_from c.plan_of.result l r m (c.plan_of.ensures ∙ plan_from_row g a.ty b.ty a.whole b.whole l r m h),
-    λ k. row_from_plan g a.ty b.ty a.whole b.whole (l, r, m) (sym c.plan_of.ensures ∙ from_takes c.plan_of.result l r m k))
+    let b = c.args.right in (
+      λ h. takes_from c.plan_of.result l r m (c.plan_of.ensures ∙ plan_from_row g a.ty b.ty a.whole b.whole l r m h),
+      λ k. row_from_plan g a.ty b.ty a.whole b.whole (l, r, m) (sym c.plan_of.ensures ∙ from_takes c.plan_of.result l r m k),
+    )
 
 none_by : (o : Option OpPlan) → ((l r m : Ty) → IsSomeAnd o (Takes l r m) → ⊥) → IsNone o
 none_by None h = refl

@@ -4,9 +4,10 @@ use Rattle.qasm_types.proofs.Operating.{unary_from_row, row_from_unary}
 use Rattle.qasm_types.proofs.operator.unary_type.Goals as goal
 
 pub returns-clause-row : goal.returns-clause-row
-returns-clause-row c m =
-    (λ h. c.unary_result.ensures.result ∙ unary_from_row c.args.op c.args.arg.ty c.args.arg.whole m h,
-    λ e. row_from_unary c.args.op c.args.arg.ty c.args.arg.whole m (sym c.unary_result.ensures.result ∙ e))
+returns-clause-row c m = (
+  λ h. c.unary_result.ensures.result ∙ unary_from_row c.args.op c.args.arg.ty c.args.arg.whole m h,
+  λ e. row_from_unary c.args.op c.args.arg.ty c.args.arg.whole m (sym c.unary_result.ensures.result ∙ e),
+)
 
 none_by : (o : Option Ty) → ((m : Ty) → o ≡ Some m → ⊥) → IsNone o
 none_by None h = refl

@@ -1,6 +1,6 @@
 use Rattle.std.proofs.Common.{◌∙◌, ap, ap₂}
 use Rattle.std.specs.Option.{option_map, option_or}
-use Rattle.qasm_types.specs.Shown.{types_of}
+use Rattle.qasm_types.specs.OpPlan.{types_of}
 use Rattle.qasm_types.proofs.Choices.{option_map-or}
 use Rattle.qasm_types.proofs.plan.bitwise_plan.Goals as goal
 
