@@ -1,0 +1,9 @@
+pub mod Core
+pub mod Kinds
+pub mod Laws
+pub mod Levels
+pub mod Run
+pub mod Size
+pub mod Tree
+pub mod Ways
+pub mod WellFormed
