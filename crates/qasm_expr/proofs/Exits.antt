@@ -1,6 +1,6 @@
 -- Answers of the parser's functions: refusals on their way out, and readers one level deeper.
-use Rattle.std.proofs.Common.{◌≡◌, ℕ, zero, suc, ◌+◌, ◌-◌, ◌≤◌, ◌<◌, List, length, slice_get, Some, Result, Ok, Err, refl, sym, ap, subst, ◌∙◌, arith}
-use Rattle.std.specs.Result.{IsErr, IsErrAnd}
+use Rattle.std.proofs.Common.{◌≡◌, ◌≢◌, ℕ, zero, suc, ◌+◌, ◌-◌, ◌≤◌, ◌<◌, List, length, slice_get, Some, Result, Ok, Err, refl, sym, ap, subst, ◌∙◌, arith}
+use Rattle.std.specs.Result.{IfErr, IsErr, IsErrAnd}
 use Rattle.std.proofs.lemmas.Result.{err_from_is_err_and}
 use Rattle.qasm_lexer.specs.declared.token.Token.{Token}
 use Rattle.qasm_ast.specs.declared.expr.Expr.{Expr}
@@ -10,7 +10,8 @@ use Rattle.qasm_expr.specs.declared.stop.Stop.{Stop}
 use Rattle.qasm_expr.specs.declared.stop.Stop.TheVariants as s
 use Rattle.qasm_expr.specs.Grammar.{Counted}
 use Rattle.qasm_expr.specs.Reader.{read_expr, read_unary, read_unary_at, read_content, read_level, read_binary}
-use Rattle.qasm_expr.specs.Seen.{Gives, Passes, Grows, Sees, deeper_expr, deeper_unary, deeper_content, tighter, rows_at}
+use Rattle.qasm_expr.specs.Seen.{Gives, Passes, Sees, deeper_expr, deeper_unary, deeper_content, tighter, rows_at}
+use Rattle.qasm_expr.specs.Answer.{Grows}
 use Rattle.qasm_expr.proofs.Growing.{grows_same}
 
 pub exit : {X Y A B : Type 0} (shows : X → A → Type 0) (shows' : Y → B → Type 0) (tokens : List Token) (from at' : ℕ) (out : Outcome Token A) (out' : Outcome Token B) (e : Stop) → ((x : Refusal Token) → out ≡ Err x → out' ≡ Err x) → from ≤ at' → Gives shows tokens at' out (Err e) → Gives shows' tokens from out' (Err e)
@@ -22,6 +23,17 @@ pub exit_mark : {Y B : Type 0} (shows' : Y → B → Type 0) (tokens : List Toke
 exit_mark shows' tokens from at' out out' (s.Syntax n) g le le' h = (omega (arith, h.0), omega (arith, h.0), g _ h.1)
 exit_mark shows' tokens from at' out out' (s.Deep n) g le le' h = (omega (arith, h.0), omega (arith, h.0), g _ h.1)
 exit_mark shows' tokens from at' out out' s.Memory g le le' h = tt
+
+-- a mark is not missed for want of memory
+pub mark_memory : (tokens : List Token) (at' : ℕ) (out : Outcome Token Token) (e : Stop) → Passes tokens at' out (Err e) → e ≢ s.Memory
+mark_memory tokens at' out (s.Syntax n) h = λ f. cc
+mark_memory tokens at' out (s.Deep n) h = λ f. cc
+mark_memory tokens at' out s.Memory h = absurd h
+
+-- nor is what `?` hands on, where that is not
+pub handed_memory : {Y : Type 0} (e : Stop) (r : Result Y Stop) → IsErrAnd r (λ y. y ≡ e) → e ≢ s.Memory → IfErr r (λ y. y ≢ s.Memory)
+handed_memory e (Ok y) is differ = tt
+handed_memory e (Err y) is differ = λ f. differ (sym is ∙ f)
 
 -- a refusal of a part, handed on by `?`, is that of the whole
 module _ {Y B : Type 0} (shows : Y → B → Type 0) (tokens : List Token) (e : Stop) (r : Result (Y × ℕ) Stop) {from at' : ℕ} {out : Outcome Token B} (is : IsErr r × IsErrAnd r (λ y. y ≡ e)) where

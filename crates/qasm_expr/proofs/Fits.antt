@@ -1,17 +1,14 @@
 -- Parts of a node name only nodes that are there.
-use Rattle.std.proofs.Common.{◌≡◌, ℕ, ◌≤◌, ◌==◌, Bool, true, false, cond, List, Option, Some, None, refl, sym, subst, arith}
+use Rattle.std.proofs.Common.{◌≡◌, ℕ, ◌==◌, Bool, true, false, cond, List, Option, Some, None, refl, sym, subst}
 use Rattle.std.specs.Prelude.{All}
-use Rattle.std.proofs.lemmas.List.Elements.{All-nil, All-cons, All-weaker}
+use Rattle.std.proofs.lemmas.List.Elements.{All-nil, All-cons}
 use Rattle.qq_base.specs.declared.refusal.Span.{Span}
 use Rattle.qasm_ast.specs.declared.expr.Expr.{Expr}
 use Rattle.qasm_ast.specs.declared.expr.ExprId.{ExprId}
-use Rattle.qasm_ast.specs.declared.expr.IndexRef.{IndexRef}
-use Rattle.qasm_ast.specs.declared.expr.IndexRef.TheVariants as i
-use Rattle.qasm_ast.specs.declared.expr.TypeRef.{TypeRef}
 use Rattle.qasm_ast.specs.declared.expr.Base.{Base}
 use Rattle.qasm_ast.specs.declared.expr.Base.TheVariants as b
 use Rattle.qasm_ast.specs.Tree.{Trees, no_tree, a_tree}
-use Rattle.qasm_ast.specs.Whole.{AllOf, IfThere, IsExpr, IndexFits, TypeFits}
+use Rattle.qasm_ast.specs.Whole.{IfThere, IsExpr, TypeFits}
 use Rattle.grammar_parts.specs.Kinds.{found_in}
 use Rattle.qasm_expr.specs.Grammar.{plain_types, sized_types}
 use Rattle.qasm_expr.specs.Seen.{SeesAll}

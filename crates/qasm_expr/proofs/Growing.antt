@@ -10,7 +10,8 @@ use Rattle.qasm_ast.specs.declared.expr.OperandName.TheVariants as o
 use Rattle.qasm_ast.specs.declared.expr.IndexRef.{IndexRef}
 use Rattle.qasm_ast.specs.Tree.{Called, word, qubit, Tree, named, wire, number, truth, bit_string, unary, binary, cast, call, cut, Trees, no_tree, a_tree, Maybe, absent, present, Bracket, position, range, members, Brackets, no_bracket, a_bracket}
 use Rattle.qasm_ast.specs.Whole.{NameFits, ExprFits}
-use Rattle.qasm_expr.specs.Seen.{Sees, SeesAll, SeesMaybe, SeesBracket, SeesBrackets, SeesCalled, Grows}
+use Rattle.qasm_expr.specs.Seen.{Sees, SeesAll, SeesMaybe, SeesBracket, SeesBrackets, SeesCalled}
+use Rattle.qasm_expr.specs.Answer.{Grows}
 
 pub get_more : {X : Type 0} (xs ys : List X) (i : ℕ) (x : X) → slice_get xs i ≡ Some x → slice_get (xs ++ ys) i ≡ Some x
 get_more [] ys i x h = absurd (cc)

@@ -1,20 +1,11 @@
 -- Lists of trees and of index brackets that are seen, with a larger bound, and with one more at the end.
-use Rattle.std.proofs.Common.{◌≡◌, inl, inr, ℕ, zero, suc, ◌+◌, ◌≤◌, ◌<◌, Bool, true, false, List, [], ◌∷◌, ◌++◌, length, drop, Option, Some, None, Ok, Err, refl, sym, ap, subst, ◌∙◌, le_refl, length-drop, append_assoc, append-nil, arith, ◌||◌}
-use Rattle.std.specs.Prelude.{◌==◌}
-use Rattle.std.proofs.lemmas.Bool.{eqb-true}
-use Rattle.qasm_lexer.specs.declared.token.Token.{Token}
+use Rattle.std.proofs.Common.{◌≡◌, ℕ, ◌≤◌, ◌<◌, List, [], ◌∷◌, ◌++◌, length, Option, refl, sym, ap, subst, arith}
 use Rattle.qasm_ast.specs.declared.expr.Expr.{Expr}
 use Rattle.qasm_ast.specs.declared.expr.ExprId.{ExprId}
 use Rattle.qasm_ast.specs.declared.expr.IndexRef.{IndexRef}
 use Rattle.qasm_ast.specs.Tree.{Tree, Trees, no_tree, a_tree, trees, Maybe, absent, present, Bracket, position, range, members, Brackets, no_bracket, a_bracket, brackets}
-use Rattle.grammar_parts.specs.Part.{nothing_kept}
-use Rattle.grammar_parts.specs.Reading.{Outcome, Refusal, Reader, and_then, heads, take_many, take_repeated}
-use Rattle.grammar_parts.specs.Kinds.{items, take_entries, take_some_list}
-use Rattle.qasm_expr.specs.TokenKinds.{kind}
-use Rattle.qasm_expr.specs.Grammar.{comma}
-use Rattle.qasm_expr.specs.Reader.{expr_kinds, begins, read_sign, read_list}
-use Rattle.qasm_expr.specs.Seen.{head_kind, Grows, Sees, SeesAll, SeesMaybe, SeesBracket, SeesBrackets}
-use Rattle.qasm_expr.proofs.Places.{Split, split_at, heads_sign, sign_yes}
+use Rattle.qasm_expr.specs.Seen.{Sees, SeesAll, SeesMaybe, SeesBracket, SeesBrackets}
+use Rattle.qasm_expr.specs.Answer.{Grows}
 use Rattle.qasm_expr.proofs.Growing.{nodes_longer, all_later, maybe_later, brackets_later, sees_below}
 
 -- ---- what is seen, with a larger bound, and with one more at the end

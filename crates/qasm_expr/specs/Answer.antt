@@ -1,5 +1,5 @@
 -- What the parser of expressions answers: the tree that is read and the place behind it, or the refusal.
-use Rattle.std.specs.Prelude.{◌≡◌, ℕ, ◌≤◌, ◌<◌, Bool, true, false, List, [], ◌∷◌, length, drop, Some, None, Result, Ok, Err, if◌then◌else◌}
+use Rattle.std.specs.Prelude.{◌≡◌, ℕ, ◌+◌, ◌≤◌, ◌<◌, Bool, true, false, List, [], ◌∷◌, ◌++◌, length, drop, slice_get, Some, None, Result, Ok, Err, if◌then◌else◌}
 use Rattle.qq_base.specs.declared.refusal.Span.{Span}
 use Rattle.qq_base.specs.declared.refusal.Fault.{Fault}
 use Rattle.qq_base.specs.declared.refusal.Fault.TheVariants as f
@@ -16,6 +16,7 @@ use Rattle.qasm_lexer.specs.declared.token.Mark.TheVariants as m
 use Rattle.qasm_ast.specs.declared.expr.Expr.{Expr}
 use Rattle.qasm_ast.specs.declared.expr.ExprId.{ExprId}
 use Rattle.qasm_ast.specs.Tree.{Tree, tree_of}
+use Rattle.qasm_ast.specs.Whole.{ExprFits}
 use Rattle.grammar_parts.specs.Exact.{Exactly}
 use Rattle.grammar_parts.specs.Reading.{Outcome, syntax, deep}
 use Rattle.grammar_parts.specs.Reading as reading
@@ -94,3 +95,18 @@ Tells text tokens names nodes _ _ = ⊥
 -- The expression that begins at a token, where this many levels may still be opened, is read exactly.
 abbrev pub IsAnswer : List ℕ → List Token → ℕ → ℕ → List (List ℕ) → List Expr → Result (ExprId × ℕ) Fault → Type 0
 IsAnswer text tokens from room names nodes result = (read : Outcome Token Tree) × Exactly (expr text (Some 64) room) (expr text None) (drop from tokens) read × Tells text tokens names nodes read result
+
+-- ---- the lists of names and nodes
+
+-- The old names and nodes stand as they were, and each new node is as a program asks.
+pub record Grows (names names' : List (List ℕ)) (nodes nodes' : List Expr) : Type 0 where
+  pub more_names : List (List ℕ)
+  pub more_nodes : List Expr
+  pub names_are : names' ≡ names ++ more_names
+  pub nodes_are : nodes' ≡ nodes ++ more_nodes
+  pub fits : (n : ℕ) (x : Expr) → length nodes ≤ n → slice_get nodes' n ≡ Some x → ExprFits (length names') n x.kind
+  pub sizes : (k : ℕ) (text : List ℕ) → length names ≤ k → slice_get names' k ≡ Some text → length text ≤ 4096
+
+-- At most one name and one node for each token that is taken, from one place to another.
+abbrev pub Added : ℕ → ℕ → ℕ → ℕ → ℕ → ℕ → Type 0
+Added names names' nodes nodes' from to = (names' + from ≤ names + to) × (nodes' + from ≤ nodes + to)

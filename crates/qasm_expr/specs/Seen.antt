@@ -1,4 +1,5 @@
--- What a function of the parser answers, and the tree that is seen from a node while the lists still grow.
+-- For private contracts alone: what a function of the parser answers, and the tree that is seen from a node while the
+-- lists still grow.
 use Rattle.std.specs.Prelude.{◌≡◌, ℕ, zero, suc, ◌+◌, ◌≤◌, ◌<◌, ◌^◌, Bool, true, false, List, [], ◌∷◌, ◌++◌, length, drop, slice_get, Option, Some, None, Result, Ok, Err}
 use Rattle.qq_base.specs.declared.refusal.Span.{Span}
 use Rattle.qasm_lexer.specs.declared.token.Token.{Token}
@@ -65,15 +66,6 @@ abbrev mutual
   SeesBrackets names nodes n js no_bracket = js ≡ []
   SeesBrackets names nodes n js (a_bracket b bs) = (j : IndexRef) × (more : List IndexRef) × (js ≡ j ∷ more) × SeesBracket names nodes n j b × SeesBrackets names nodes n more bs
 
--- The old names and nodes stand as they were, and each new node is as a program asks.
-pub record Grows (names names' : List (List ℕ)) (nodes nodes' : List Expr) : Type 0 where
-  pub more_names : List (List ℕ)
-  pub more_nodes : List Expr
-  pub names_are : names' ≡ names ++ more_names
-  pub nodes_are : nodes' ≡ nodes ++ more_nodes
-  pub fits : (n : ℕ) (x : Expr) → length nodes ≤ n → slice_get nodes' n ≡ Some x → ExprFits (length names') n x.kind
-  pub sizes : (k : ℕ) (text : List ℕ) → length names ≤ k → slice_get names' k ≡ Some text → length text ≤ 4096
-
 -- The answer of a reader from a place on, where `shows` says which value an answer stands for.
 abbrev pub Gives : {X A : Type 0} → (X → A → Type 0) → List Token → ℕ → Outcome Token A → Result (X × ℕ) Stop → Type 0
 Gives {X} {A} shows tokens from out (Ok r) = (a : A) × shows r.0 a × (from ≤ r.1) × (r.1 ≤ length tokens) × (out ≡ Ok (a, drop r.1 tokens))
@@ -81,12 +73,12 @@ Gives shows tokens from out (Err (s.Syntax at')) = (from ≤ at') × (at' ≤ le
 Gives shows tokens from out (Err (s.Deep at')) = (from ≤ at') × (at' ≤ length tokens) × (out ≡ Err (deep (drop at' tokens)))
 Gives shows tokens from out (Err s.Memory) = Unit {0}
 
--- the same of a reader of one token
+-- the same of a reader of one token, which takes no memory
 abbrev pub Passes : List Token → ℕ → Outcome Token Token → Result ℕ Stop → Type 0
 Passes tokens from out (Ok n) = (x : Token) × (n ≡ from + 1) × (n ≤ length tokens) × (drop from tokens ≡ x ∷ drop n tokens) × (out ≡ Ok (x, drop n tokens))
 Passes tokens from out (Err (s.Syntax at')) = (at' ≡ from) × (out ≡ Err (syntax (drop at' tokens)))
 Passes tokens from out (Err (s.Deep at')) = (at' ≡ from) × (out ≡ Err (deep (drop at' tokens)))
-Passes tokens from out (Err s.Memory) = Unit {0}
+Passes tokens from out (Err s.Memory) = ⊥
 
 -- the kind of the first token, or 0
 abbrev pub head_kind : List ℕ → List Token → ℕ
@@ -163,10 +155,6 @@ pub record Literal (text : List ℕ) (tokens : List Token) (from : ℕ) (kind : 
 
 abbrev pub SeesCounted : List (List ℕ) → List Expr → ExprId × ℕ → Counted → Type 0
 SeesCounted names nodes x a = Sees names nodes x.0.0 a.0 × (x.1 ≡ a.1)
-
--- At most one name and one node for each token that is taken, from one place to another.
-abbrev pub Added : ℕ → ℕ → ℕ → ℕ → ℕ → ℕ → Type 0
-Added names names' nodes nodes' from to = (names' + from ≤ names + to) × (nodes' + from ≤ nodes + to)
 
 -- a node of a binary operator is added, at the place of its left operand
 pub record Joins (nodes nodes' : List Expr) (op : BinaryOp) (left right : ExprId) : Type 0 where

@@ -2,8 +2,7 @@
 
 ghost use Rattle.std.specs.Prelude.{◌≡◌, ◌≤◌, ◌-◌, ◌^◌, Ok, length, IfOk};
 ghost use Rattle.qasm_lexer.specs.Tokens.{Tokens};
-ghost use Rattle.qasm_expr.specs.Answer.{IsAnswer};
-ghost use Rattle.qasm_expr.specs.Seen.{Grows, Added};
+ghost use Rattle.qasm_expr.specs.Answer.{IsAnswer, Grows, Added};
 
 use crate::parse::expr;
 use crate::refusal::fault_of;

@@ -9,7 +9,8 @@ ghost use Rattle.qasm_ast.specs.Whole.{AllOf, IfThere, IsExpr, IndexFits};
 ghost use Rattle.qasm_lexer.specs.Sizes.{bytes_of};
 ghost use Rattle.qasm_expr.specs.TokenKinds.{mark_kind};
 ghost use Rattle.qasm_expr.specs.Reader.{read_expr, read_unary, read_binary, read_type, read_prim, read_cast, read_between, read_behind_name, read_indexes, read_content, read_behind_colon, read_stop, read_list};
-ghost use Rattle.qasm_expr.specs.Seen.{Cut, Gives, Grows, Sees, SeesAll, SeesMaybe, SeesBracket, SeesBrackets, SeesCounted, SeesScalar, Added, deeper_expr, deeper_content, tighter};
+ghost use Rattle.qasm_expr.specs.Seen.{Cut, Gives, Sees, SeesAll, SeesMaybe, SeesBracket, SeesBrackets, SeesCounted, SeesScalar, deeper_expr, deeper_content, tighter};
+ghost use Rattle.qasm_expr.specs.Answer.{Grows, Added};
 
 use crate::add::{add, intern, join, literal, name};
 use crate::sees::{

@@ -1,4 +1,5 @@
--- What is answered of a list of tokens: the statements of the program, or the refusal, computed.
+-- For private contracts: what is answered of a list of tokens, the statements of the program or the refusal, computed as
+-- the code does. The laws say that it is right.
 use Rattle.std.specs.Prelude.{ℕ, ◌-◌, Bool, true, false, cond, List, [], ◌∷◌, ◌++◌, length, take, Option, Result, Ok, Err}
 use Rattle.qq_base.specs.declared.refusal.Refusal.{Refusal}
 use Rattle.qq_base.specs.declared.rule.Rule.{Rule}

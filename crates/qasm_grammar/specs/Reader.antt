@@ -1,4 +1,5 @@
--- The readers of lists that stand for the grammar's parts.
+-- For private contracts: the readers of lists that stand for the grammar's parts, which the code follows. The laws say
+-- that they read exactly.
 use Rattle.std.specs.Prelude.{ℕ, zero, suc, cond, List, [], ◌∷◌, ◌++◌, codes, Option, Some, None, true, false}
 use Rattle.qq_base.specs.declared.refusal.Span.{Span}
 use Rattle.qasm_lexer.specs.declared.token.Token.{Token}

@@ -1,4 +1,5 @@
--- Words for the contracts of the scanners: what they skip, and what they find.
+-- For private contracts, but for `StopsAt`, which `Pieces` cites: words for the contracts of the scanners, what they skip
+-- and what they find.
 use Rattle.std.specs.Prelude.{◌≡◌, ℕ, ◌<◌, ◌≤◌, Bool, false, not, ◌&&◌, ◌||◌, ◌⊎◌, List, [], ◌∷◌, ◌++◌, ◌==◌, IsTrue, MatchBool, codes, length, Result, Ok, Err}
 use denote.Ref.{Bor}
 use Rattle.qq_base.specs.declared.rule.Rule.{Rule}

@@ -1,5 +1,5 @@
 -- Names that calls and assignments begin with, and what is made of them.
-use Rattle.std.proofs.Common.{◌≡◌, ℕ, ◌<◌, ◌++◌, Vec, Global, List, [], ◌∷◌, length, Some, Ok, Err, slice_get, refl, sym, ap, subst, ◌∙◌, length-append, arith}
+use Rattle.std.proofs.Common.{◌≡◌, ℕ, ◌<◌, ◌++◌, Vec, Global, List, [], ◌∷◌, length, Some, slice_get, refl, sym, ap, subst, ◌∙◌, length-append, arith}
 use Rattle.qq_base.specs.declared.refusal.Span.{Span}
 use Rattle.qasm_ast.specs.declared.expr.Expr.{Expr}
 use Rattle.qasm_ast.specs.declared.expr.ExprId.{ExprId}
@@ -13,9 +13,7 @@ use Rattle.qasm_ast.specs.declared.stmt.StmtKind.TheVariants as s
 use Rattle.qasm_ast.specs.Tree.{Tree, trees, call, Bracket, Name, Change, change_of, tree_at, invoke}
 use Rattle.qasm_ast.specs.Whole.{AllOf, IsExpr, DeclaredFits, ModifierFits, IsCall as IsCallNode}
 use Rattle.qasm_ast.proofs.Steps.{ids_same, tree_at-enough, tree_of-node}
-use Rattle.qasm_lexer.specs.declared.token.Token.{Token}
-use Rattle.grammar_parts.specs.Reading.{Outcome, Refusal, and_then, done}
-use Rattle.qasm_expr.specs.Seen.{Grows}
+use Rattle.qasm_expr.specs.Answer.{Grows}
 use Rattle.qasm_expr.proofs.Growing.{grows_add, last_found}
 use Rattle.qasm_grammar.specs.Grammar.{at_one}
 use Rattle.qasm_grammar.specs.Parts.{Call, declared, operand_at, place_of_change, place_of_call, call_statement}

@@ -17,7 +17,7 @@ use Rattle.qasm_ast.specs.Whole.{IfThere, AllOf, IsExpr, IsStmt, IsGateMember, I
 use Rattle.qasm_ast.proofs.Steps.{tree_of-append, ids_same, some_same, indexes_same}
 use Rattle.qasm_ast.proofs.Staying.{name_stays, scalar_stays, operand_stays, value_stays, change_stays, parameter_stays, statements_stay, statement_of-append}
 use Rattle.qasm_ast.proofs.Fitting.{ids_longer, maybe_longer, indexes_longer, operand_longer, type_longer, declared_longer, value_longer, modifier_longer, param_longer, body_on, member_on, stmt_on}
-use Rattle.qasm_expr.specs.Seen.{Grows}
+use Rattle.qasm_expr.specs.Answer.{Grows}
 use Rattle.qasm_stmt.specs.declared.arena.Arena.{Arena}
 use Rattle.qasm_stmt.specs.Seen.{Each, IfBoth, Sound, Grown, IsTree, IsMaybe, IsTrees, IsName, IsType, IsBrackets, IsOperand, IsValue, IsChange, IsParameter, IsStatement, IsStatements, IsMember}
 use Rattle.qasm_ast.specs.Whole.{ExprFits}

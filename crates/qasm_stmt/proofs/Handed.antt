@@ -1,5 +1,5 @@
 -- What a function hands on of what its calls answer: names, trees, types, index brackets, lists and parameters.
-use Rattle.std.proofs.Common.{◌≡◌, ℕ, zero, suc, ◌-◌, ◌<◌, List, Vec, Global, Option, Some, None, length, slice_get, Result, Ok, Err, refl, ap, sym, subst, ◌∙◌, ◌++◌, ◌∷◌, [], le_refl, arith}
+use Rattle.std.proofs.Common.{◌≡◌, ℕ, zero, suc, ◌-◌, ◌<◌, List, Vec, Global, Option, Some, None, length, slice_get, Result, Ok, Err, refl, ap, sym, ◌∙◌, [], le_refl, arith}
 use Rattle.std.specs.Prelude.{IfOk, OnOk}
 use Rattle.qq_base.specs.declared.refusal.Span.{Span}
 use Rattle.qasm_ast.specs.declared.expr.Base.TheVariants as b
@@ -25,8 +25,7 @@ use Rattle.qasm_grammar.proofs.Depths.{depth}
 use Rattle.qasm_grammar.proofs.Pieces.{reads_parameter}
 use Rattle.qasm_grammar.proofs.Moves.{moves}
 use Rattle.qasm_stmt.specs.declared.arena.Arena.{Arena}
-use Rattle.qasm_stmt.specs.Seen.{Each, IsList, IfBoth, tree, IsTree, IsMaybe, IsName, IsType, IsBrackets, IsParameter}
-use Rattle.qasm_stmt.proofs.Growing.{each_on, each_push}
+use Rattle.qasm_stmt.specs.Seen.{IsList, IfBoth, tree, IsTree, IsMaybe, IsName, IsType, IsBrackets, IsParameter}
 use Rattle.qasm_stmt.proofs.Showing.{each_from, brackets_from, tree_from, type_from, gives_map}
 
 -- what holds anyway

@@ -1,8 +1,6 @@
 -- Tokens of a line that were seen, and lines that are made of parts.
-use Rattle.std.proofs.Common.{◌≡◌, ℕ, ◌+◌, ◌≤◌, ◌<◌, Bool, true, List, [], ◌∷◌, length, drop, map, Option, Some, None, Result, Ok, Err, refl, ap, subst, sym, ◌∙◌, arith}
+use Rattle.std.proofs.Common.{◌≡◌, ℕ, ◌+◌, ◌≤◌, ◌<◌, Bool, true, List, [], ◌∷◌, length, drop, map, Option, Some, None, Ok, refl, ap, subst, sym, ◌∙◌, arith}
 use Rattle.std.specs.Prelude.{◌==◌}
-use Rattle.std.specs.Result.{IsErrAnd}
-use Rattle.std.proofs.lemmas.Result.{err_from_is_err_and}
 use Rattle.qq_base.specs.declared.refusal.Span.{Span}
 use Rattle.qasm_ast.specs.declared.expr.Base.TheVariants as b
 use Rattle.qasm_ast.specs.declared.expr.ExprId.{ExprId}
@@ -15,15 +13,13 @@ use Rattle.qasm_ast.specs.Whole.{IfThere, AllOf, OperandFits, ValueFits, QubitFi
 use Rattle.qasm_lexer.specs.declared.token.Token.{Token}
 use Rattle.qasm_lexer.specs.declared.token.Keyword.{Keyword}
 use Rattle.qasm_lexer.specs.declared.token.Keyword.TheVariants as k
-use Rattle.grammar_parts.specs.Reading.{Outcome, Refusal, heads, taken, take_one}
+use Rattle.grammar_parts.specs.Reading.{heads, taken, take_one}
 use Rattle.grammar_parts.specs.Kinds.{found_in, picked}
-use Rattle.qasm_expr.specs.declared.stop.Stop.{Stop}
 use Rattle.qasm_expr.specs.Grammar.{scalar}
 use Rattle.qasm_expr.specs.Reader.{begins, read_sign}
-use Rattle.qasm_expr.specs.Seen.{Gives, Passes, head_kind, head_in}
+use Rattle.qasm_expr.specs.Seen.{head_kind, head_in}
 use Rattle.qasm_expr.specs.TokenKinds.{keyword_kind, kind}
 use Rattle.qasm_expr.proofs.Chains.{found_at}
-use Rattle.qasm_expr.proofs.Exits.{exit, exit_mark}
 use Rattle.qasm_expr.proofs.Fits.{sized_fits}
 use Rattle.qasm_expr.proofs.Places.{heads_sign, passes_yes}
 use Rattle.qasm_grammar.specs.Reader.{word_kinds}

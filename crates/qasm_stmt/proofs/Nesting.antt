@@ -1,8 +1,7 @@
 -- Statements by the room that is left, and bodies one level deeper.
-use Rattle.std.proofs.Common.{◌≡◌, ℕ, zero, suc, ◌-◌, ◌≤◌, ◌<◌, ◌^◌, Bool, true, false, ◌||◌, cond, List, [], ◌∷◌, length, Some, None, Result, Ok, Err, refl, sym, ap, subst, ◌∙◌, arith}
-use Rattle.std.specs.Prelude.{◌==◌, IsErrAnd}
+use Rattle.std.proofs.Common.{◌≡◌, ℕ, zero, suc, ◌-◌, ◌<◌, ◌^◌, Bool, true, false, ◌||◌, cond, List, [], ◌∷◌, length, Some, None, Ok, Err, refl, sym, ap, subst, ◌∙◌, arith}
+use Rattle.std.specs.Prelude.{◌==◌}
 use Rattle.qasm_lexer.specs.declared.token.Token.{Token}
-use Rattle.qasm_lexer.specs.declared.token.Keyword.{Keyword}
 use Rattle.qasm_lexer.specs.declared.token.Keyword.TheVariants as k
 use Rattle.qasm_lexer.specs.declared.token.Mark.TheVariants as m
 use Rattle.qasm_ast.specs.declared.stmt.StmtId.{StmtId}
@@ -11,17 +10,13 @@ use Rattle.qasm_ast.specs.Tree.{Tree, Statement, Statements, a_statement, no_sta
 use Rattle.qasm_ast.specs.Whole.{AllOf, IsStmt, IsGateMember}
 use Rattle.grammar_parts.specs.Reading.{Outcome, Refusal, Reader, syntax, deep, and_then, take_never, take_repeated, heads}
 use Rattle.grammar_parts.specs.Kinds.{has, marked, by, is_some}
-use Rattle.qasm_expr.specs.declared.stop.Stop.{Stop}
-use Rattle.qasm_expr.specs.TokenKinds.{keyword_kind, mark_kind, kind}
+use Rattle.qasm_expr.specs.TokenKinds.{mark_kind, kind}
 use Rattle.qasm_expr.specs.Reader.{begins, read_opener}
-use Rattle.qasm_expr.specs.Seen.{Gives, Passes, head_kind}
-use Rattle.qasm_expr.proofs.Exits.{exit, exit_mark}
-use Rattle.qasm_expr.proofs.Places.{heads_sign}
 use Rattle.qasm_grammar.specs.Parts as p
 use Rattle.qasm_grammar.specs.Reader.{word_kinds, symbol_kinds, stmt_kinds, member_kinds, read_braced, read_block_of, read_body_of, read_member, read_gate_body, read_symbol, read_keyword, read_behind_body, read_stmt, read_stmt_at}
 use Rattle.qasm_grammar.specs.Grammar.{without_else, with_else}
 use Rattle.qasm_stmt.specs.declared.arena.Arena.{Arena}
-use Rattle.qasm_stmt.specs.Seen.{Each, Any, IsStatement, IsStatements, IsMember, tree, stmt, deeper_block, deeper_body}
+use Rattle.qasm_stmt.specs.Seen.{Each, IsStatement, IsStatements, IsMember, tree, stmt, deeper_block, deeper_body}
 use Rattle.qasm_stmt.proofs.Growing.{each_all}
 
 -- ---- by the room

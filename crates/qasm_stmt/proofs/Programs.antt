@@ -26,7 +26,8 @@ use Rattle.qasm_stmt.specs.declared.arena.Arena.{Arena}
 use Rattle.qasm_ast.specs.Tree.{statements_at}
 use Rattle.qasm_lexer.specs.Tokens.{place_of}
 use Rattle.qasm_stmt.specs.Seen.{Sound, Few, tree, stmt}
-use Rattle.qasm_stmt.specs.Parsed.{IsFault, IsParsed}
+use Rattle.qasm_stmt.specs.Parsed.{IsParsed}
+use Rattle.qasm_stmt.specs.Refusing.{IsFault}
 use Rattle.qasm_lexer.specs.declared.token.Token.{Token}
 use Rattle.qasm_lexer.specs.declared.token.TokenKind.TheVariants as t
 use Rattle.qasm_ast.specs.Tree.{Statements}

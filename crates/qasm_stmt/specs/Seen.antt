@@ -1,6 +1,6 @@
--- What a function of the parser answers: the values that its answers stand for, as they are seen through the
--- lists of the tree, which still grow.
-use Rattle.std.specs.Prelude.{◌≡◌, ℕ, zero, suc, ◌+◌, ◌<◌, ◌≤◌, ◌^◌, ◌++◌, Bool, true, false, List, [], ◌∷◌, length, slice_get, Option, Some, None}
+-- For private contracts alone: what a function of the parser answers, the values that its answers stand for as they are
+-- seen through the lists of the tree, which still grow.
+use Rattle.std.specs.Prelude.{◌≡◌, ℕ, zero, suc, ◌+◌, ◌<◌, ◌≤◌, ◌^◌, ◌++◌, Bool, List, [], ◌∷◌, length, slice_get, Option, Some, None}
 use Rattle.qasm_ast.specs.declared.expr.Expr.{Expr}
 use Rattle.qasm_ast.specs.declared.expr.ExprId.{ExprId}
 use Rattle.qasm_ast.specs.declared.expr.OperandRef.{OperandRef}
@@ -18,11 +18,9 @@ use Rattle.qq_base.specs.declared.refusal.Span.{Span}
 use Rattle.qasm_ast.specs.Tree.{Tree, Trees, Maybe, Bracket, brackets, brackets_at, trees_at, maybe_at, tree_of, Name, name_of, Scalar, scalar_of, Operand, operand_of, Value, value_of, Change, change_of, Parameter, parameter_of, Statement, Statements, statements_at, stmt_of, statement_of}
 use Rattle.qasm_ast.specs.Whole.{IfThere, AllOf, IsExpr, IsStmt, IsGateMember, IndexFits, TypeFits, DeclaredFits, OperandFits, ValueFits, ModifierFits, ParamFits, ExprsFit, StmtFits, StmtsFit}
 use Rattle.grammar_parts.specs.Reading.{Reader, take_never}
-use Rattle.grammar_parts.specs.Kinds.{take_some_list, take_any_list}
 use Rattle.qasm_lexer.specs.declared.token.Token.{Token}
 use Rattle.qasm_lexer.specs.declared.token.Mark.TheVariants as m
 use Rattle.qasm_expr.specs.TokenKinds.{kind}
-use Rattle.qasm_expr.specs.Grammar.{comma}
 use Rattle.qasm_expr.specs.Reader.{begins}
 use Rattle.qasm_stmt.specs.declared.arena.Arena.{Arena}
 use Rattle.qasm_stmt.specs.declared.calls.GateCall.{GateCall}

@@ -1,12 +1,13 @@
 //! Actions: calls of gates and subroutines, assignments, measurements and single words.
 
-ghost use Rattle.std.specs.Prelude.{◌≡◌, ◌≤◌, ◌<◌, ℕ, List, Some, Ok, length, drop, IfOk, OnOk, OnSome};
+ghost use Rattle.std.specs.Prelude.{◌≡◌, ◌≢◌, ◌≤◌, ◌<◌, ℕ, List, Some, Ok, length, drop, IfOk, IfErr, OnOk, OnSome};
 ghost use Rattle.qq_base.specs.declared.refusal.Span.{Span};
 ghost use Rattle.qasm_ast.specs.Tree.{Operand, break, continue, end};
 ghost use Rattle.qasm_lexer.specs.declared.token.Keyword.TheVariants.{Break, Continue, End};
 ghost use Rattle.qasm_grammar.specs.Grammar.{assign_operators};
 ghost use Rattle.qasm_grammar.specs.Parts.{declared as named};
 ghost use Rattle.qasm_expr.specs.Seen.{Cut, Gives, head_in};
+ghost use Rattle.qasm_expr.specs.declared.stop.Stop.TheVariants.{Memory};
 ghost use Rattle.qasm_grammar.specs.Reader.{read_word_line, read_barrier_line, read_reset_line, read_measure_line, read_return_line, read_assigned, read_behind_name, read_action, read_aim, read_returned};
 ghost use Rattle.qasm_stmt.specs.Seen.{Sound, Few, Grown, IfBoth, IsOperand, IsValue, IsName, IsLine};
 
@@ -193,6 +194,7 @@ fn break_line(
     ensures grown { OnOk result (Grown arena.now arena.now) }
     ensures few { IfOk result (λ r. Few arena.now r.1) }
     ensures sound { OnOk result (Sound arena.now) }
+    ensures memory { IfErr result (λ e. e ≢ Memory) }
 {
     let (at, next) = word(text, tokens, from, Keyword::Break)?;
     let next = expect(text, tokens, next, Mark::Semicolon)?;
@@ -214,6 +216,7 @@ fn continue_line(
     ensures grown { OnOk result (Grown arena.now arena.now) }
     ensures few { IfOk result (λ r. Few arena.now r.1) }
     ensures sound { OnOk result (Sound arena.now) }
+    ensures memory { IfErr result (λ e. e ≢ Memory) }
 {
     let (at, next) = word(text, tokens, from, Keyword::Continue)?;
     let next = expect(text, tokens, next, Mark::Semicolon)?;
@@ -235,6 +238,7 @@ fn end_line(
     ensures grown { OnOk result (Grown arena.now arena.now) }
     ensures few { IfOk result (λ r. Few arena.now r.1) }
     ensures sound { OnOk result (Sound arena.now) }
+    ensures memory { IfErr result (λ e. e ≢ Memory) }
 {
     let (at, next) = word(text, tokens, from, Keyword::End)?;
     let next = expect(text, tokens, next, Mark::Semicolon)?;

@@ -1,7 +1,8 @@
 //! Declarations that need no statements in them.
 
-ghost use Rattle.std.specs.Prelude.{◌≡◌, ◌≤◌, ◌+◌, ◌∷◌, Some, Ok, length, drop, IfOk, OnOk};
+ghost use Rattle.std.specs.Prelude.{◌≡◌, ◌≢◌, ◌≤◌, ◌+◌, ◌∷◌, Some, Ok, length, drop, IfOk, IfErr, OnOk};
 ghost use Rattle.qasm_expr.specs.Seen.{Cut, Gives};
+ghost use Rattle.qasm_expr.specs.declared.stop.Stop.TheVariants.{Syntax, Memory};
 ghost use Rattle.qasm_grammar.specs.Parts.{included, is_stdgates};
 ghost use Rattle.qasm_grammar.specs.Reader.{read_inclusion, read_qubit_line, read_qreg_line, read_creg_line, read_variable_line, read_constant_line, read_output_line, read_alias_line, read_initial, read_joins};
 ghost use Rattle.qasm_stmt.specs.Seen.{Sound, Few, Grown, IsList, IfBoth, IsOperand, IsValue, IsLine, Any, line_of};
@@ -42,6 +43,7 @@ fn included(text: &[u8], tokens: &[Token], from: usize) -> Result<((), usize), S
     requires cut { Cut text.now tokens.now }
     ensures gives { Gives Any tokens.now from (take_one (included text.now) (drop from tokens.now)) result }
     ensures next { IfOk result (λ r. r.1 ≡ from + 1) }
+    ensures stop { IfErr result (λ e. e ≡ Syntax from) }
 {
     if from == tokens.len() {
         return Err(Stop::Syntax(from));
@@ -70,6 +72,7 @@ pub fn inclusion(
     ensures grown { OnOk result (Grown arena.now arena.now) }
     ensures few { IfOk result (λ r. Few arena.now r.1) }
     ensures sound { OnOk result (Sound arena.now) }
+    ensures memory { IfErr result (λ e. e ≢ Memory) }
 {
     let (at, next) = word(text, tokens, from, Keyword::Include)?;
     let (_, next) = included(text, tokens, next)?;

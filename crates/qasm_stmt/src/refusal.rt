@@ -4,7 +4,7 @@ ghost use Rattle.std.specs.Prelude.{◌≡◌, ◌≤◌, ◌<◌, Some, Ok, len
 ghost use Rattle.qasm_expr.specs.Seen.{Cut};
 ghost use Rattle.qasm_expr.specs.Answer.{IsWithin};
 ghost use Rattle.qasm_grammar.specs.Answer.{ends_in, is_include_word, is_version_word, might_begin, rule_of, rule_where};
-ghost use Rattle.qasm_stmt.specs.Parsed.{IsFault, is_at};
+ghost use Rattle.qasm_stmt.specs.Refusing.{IsFault, is_at};
 
 use crate::arena::Arena;
 use crate::whole::whole;

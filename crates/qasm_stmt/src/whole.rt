@@ -1,8 +1,9 @@
 //! The version and all statements of a list of tokens.
 
-ghost use Rattle.std.specs.Prelude.{◌≡◌, ◌≤◌, ◌+◌, [], Some, Ok, length, drop, IfOk, OnOk};
+ghost use Rattle.std.specs.Prelude.{◌≡◌, ◌≢◌, ◌≤◌, ◌+◌, [], Some, Ok, length, drop, IfOk, IfErr, OnOk};
 ghost use Rattle.grammar_parts.specs.Reading.{take_one};
 ghost use Rattle.qasm_expr.specs.Seen.{Cut, Gives};
+ghost use Rattle.qasm_expr.specs.declared.stop.Stop.TheVariants.{Syntax, Memory};
 ghost use Rattle.qasm_grammar.specs.Parts.{is_zero, version_of};
 ghost use Rattle.qasm_grammar.specs.Reader.{read_program, read_version};
 ghost use Rattle.qasm_stmt.specs.Seen.{Sound, Few, Any, IsStatements};
@@ -31,6 +32,7 @@ fn version_number(tokens: &[Token], from: usize) -> Result<((), usize), Stop>
     requires within { from ≤ length tokens.now }
     ensures gives { Gives Any tokens.now from (take_one version_of (drop from tokens.now)) result }
     ensures next { IfOk result (λ r. r.1 ≡ from + 1) }
+    ensures stop { IfErr result (λ e. e ≡ Syntax from) }
 {
     if from == tokens.len() {
         return Err(Stop::Syntax(from));
@@ -46,6 +48,7 @@ fn version(text: &[u8], tokens: &[Token], from: usize) -> Result<((), usize), St
     requires within { from ≤ length tokens.now }
     requires cut { Cut text.now tokens.now }
     ensures gives { Gives Any tokens.now from (read_version text.now (drop from tokens.now)) result }
+    ensures memory { IfErr result (λ e. e ≢ Memory) }
 {
     if !sees_word(text, tokens, from, Keyword::OpenQasm) {
         return Ok(((), from));

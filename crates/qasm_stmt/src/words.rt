@@ -1,7 +1,8 @@
 //! Single words and marks, with their places.
 
-ghost use Rattle.std.specs.Prelude.{◌≡◌, ◌≤◌, ◌+◌, Ok, length, drop, IfOk};
+ghost use Rattle.std.specs.Prelude.{◌≡◌, ◌≤◌, ◌+◌, Ok, length, drop, IfOk, IfErr};
 ghost use Rattle.qasm_expr.specs.Seen.{Cut, Gives};
+ghost use Rattle.qasm_expr.specs.declared.stop.Stop.TheVariants.{Syntax};
 ghost use Rattle.qasm_grammar.specs.Reader.{read_keyword, read_symbol};
 
 use qasm_expr::parts::{Stop, sees, sees_word};
@@ -14,6 +15,7 @@ pub fn word(text: &[u8], tokens: &[Token], at: usize, word: Keyword) -> Result<(
     requires cut { Cut text.now tokens.now }
     ensures gives { Gives (λ place x. place ≡ x.at) tokens.now at (read_keyword text.now word (drop at tokens.now)) result }
     ensures next { IfOk result (λ r. r.1 ≡ at + 1) }
+    ensures stop { IfErr result (λ e. e ≡ Syntax at) }
 {
     if sees_word(text, tokens, at, word) {
         Ok((tokens[at].at, at + 1))
@@ -28,6 +30,7 @@ pub fn symbol(text: &[u8], tokens: &[Token], at: usize, mark: Mark) -> Result<(S
     requires cut { Cut text.now tokens.now }
     ensures gives { Gives (λ place x. place ≡ x.at) tokens.now at (read_symbol text.now mark (drop at tokens.now)) result }
     ensures next { IfOk result (λ r. r.1 ≡ at + 1) }
+    ensures stop { IfErr result (λ e. e ≡ Syntax at) }
 {
     if sees(text, tokens, at, mark) {
         Ok((tokens[at].at, at + 1))

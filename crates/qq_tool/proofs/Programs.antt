@@ -4,7 +4,8 @@ use Rattle.qq_base.specs.declared.refusal.Fault.{Fault}
 use Rattle.qasm_lexer.specs.declared.token.Token.{Token}
 use Rattle.qasm_lexer.specs.Tokens.{Tokens}
 use Rattle.qasm_ast.specs.Whole.{Source}
-use Rattle.qasm_stmt.specs.Parsed.{IsParsed, statements_of}
+use Rattle.qasm_ast.specs.View.{statements_of}
+use Rattle.qasm_stmt.specs.Parsed.{IsParsed}
 use Rattle.qq_tool.specs.Refused.{IsProgramText}
 
 -- where the parser gives a tree, the text is a program

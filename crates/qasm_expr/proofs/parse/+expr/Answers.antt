@@ -17,7 +17,8 @@ use Rattle.qasm_expr.specs.TokenKinds.{mark_kind}
 use Rattle.qasm_expr.specs.Grammar.{scalar, name_of}
 use Rattle.qasm_expr.specs.Reader.{expr_kinds, read_sign, read_opener, read_between, read_width, read_grouped, read_type, read_cast, read_list, read_stop, read_behind_colon, read_behind_start, read_set, read_content, read_index, read_indexes, read_behind_name, read_prim, read_binary, read_unary, read_expr}
 use Rattle.qasm_lexer.specs.declared.token.Token.{Token}
-use Rattle.qasm_expr.specs.Seen.{Grows, Sees, SeesAll, SeesBracket, SeesBrackets, SeesCounted, SeesScalar, deeper_expr, deeper_content, tighter, rows_at}
+use Rattle.qasm_expr.specs.Seen.{Sees, SeesAll, SeesBracket, SeesBrackets, SeesCounted, SeesScalar, deeper_expr, deeper_content, tighter, rows_at}
+use Rattle.qasm_expr.specs.Answer.{Grows}
 use Rattle.qasm_expr.proofs.Places.{heads_sign, passes_yes}
 use Rattle.qasm_expr.proofs.Growing.{get_below, nodes_longer, name_later, last_found, grows_same, grows_add, grows_name, grows_on, sees_later, all_later, maybe_later, brackets_later, sees_below}
 use Rattle.qasm_expr.proofs.Chains.{Going, going_start, going_end, going_full, going_err, going_step}

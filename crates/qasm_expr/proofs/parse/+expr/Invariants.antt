@@ -3,7 +3,8 @@ use Rattle.qasm_lexer.specs.declared.token.Mark.TheVariants as m
 use Rattle.qasm_expr.specs.TokenKinds.{mark_kind}
 use Rattle.qasm_expr.specs.Reader.{expr_kinds, read_expr, read_unary, read_binary, read_index, read_indexes, read_list}
 use Rattle.qasm_ast.specs.Tree.{trees, brackets}
-use Rattle.qasm_expr.specs.Seen.{SeesAll, SeesBrackets, Grows, Added, deeper_content, tighter, rows_at}
+use Rattle.qasm_expr.specs.Seen.{SeesAll, SeesBrackets, deeper_content, tighter, rows_at}
+use Rattle.qasm_expr.specs.Answer.{Grows, Added}
 use Rattle.qasm_expr.proofs.Chains.{Going}
 use Rattle.qasm_expr.proofs.Loops.{Repeating, Listing}
 use Rattle.std.specs.Prelude.{All}

@@ -1,8 +1,7 @@
 use Rattle.std.proofs.Common.{Some, true, false, drop, refl, sym, ap, ◌∙◌, le_refl}
 use Rattle.qasm_lexer.specs.declared.token.Keyword.TheVariants as k
 use Rattle.qasm_ast.specs.Tree.{break, continue, end}
-use Rattle.grammar_parts.specs.Reading.{take_one, and_then}
-use Rattle.qasm_expr.specs.Grammar.{name_of}
+use Rattle.grammar_parts.specs.Reading.{and_then}
 use Rattle.qasm_expr.proofs.Exits.{behind, handed}
 use Rattle.qasm_grammar.specs.Reader.{read_word_line, read_barrier_line, read_reset_line, read_measure_line, read_return_line, read_call_line, read_behind_name, read_action}
 use Rattle.qasm_stmt.specs.Seen.{IsLine}

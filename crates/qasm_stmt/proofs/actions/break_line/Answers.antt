@@ -3,7 +3,7 @@ use Rattle.qasm_ast.specs.Tree.{break}
 use Rattle.qasm_grammar.specs.Reader.{read_word_line}
 use Rattle.qasm_grammar.specs.Grammar.{at_one}
 use Rattle.qasm_stmt.proofs.Growing.{grown_same}
-use Rattle.qasm_expr.proofs.Exits.{handed, handed_mark}
+use Rattle.qasm_expr.proofs.Exits.{handed, handed_mark, handed_memory, mark_memory}
 use Rattle.qasm_stmt.proofs.Lines.{line_shows}
 use Rattle.qasm_stmt.proofs.actions.break_line.Goals as goal
 
@@ -27,3 +27,6 @@ returns-clause-gives c =
 
 pub returns-clause-grown : goal.returns-clause-grown
 returns-clause-grown c = grown_same _
+
+pub returns-in_err-next-clause-memory : goal.returns-in_err-next-clause-memory
+returns-in_err-next-clause-memory c = handed_memory _ _ c.from_residual-in_err-next.ensures.1 (mark_memory _ _ _ _ c.in_err-next.ensures)

@@ -1,11 +1,8 @@
 use Rattle.std.proofs.Common.{◌-◌, ◌≤◌, ◌<◌, ◌∷◌, ◌++◌, [], Some, length, drop, refl, sym, ap, subst, ◌∙◌, le_refl, length-drop, length-append, arith}
-use Rattle.qasm_lexer.specs.declared.token.Mark.TheVariants as m
-use Rattle.qasm_expr.specs.TokenKinds.{mark_kind}
-use Rattle.qasm_expr.specs.Reader.{read_opener}
 use Rattle.qasm_expr.proofs.Units.{pushed}
 use Rattle.qasm_grammar.specs.Parts.{statements}
-use Rattle.qasm_grammar.specs.Reader.{member_kinds, read_symbol, read_member}
-use Rattle.qasm_stmt.specs.Seen.{Each, IsMember, IsGateBody}
+use Rattle.qasm_grammar.specs.Reader.{member_kinds, read_member}
+use Rattle.qasm_stmt.specs.Seen.{Each, IsMember}
 use Rattle.qasm_stmt.proofs.Growing.{each_none, grown_same, grown_on, each_on, each_push, member_later}
 use Rattle.qasm_expr.proofs.Loops.{repeating_start, repeating_stop, repeating_err, repeating_more}
 use Rattle.qasm_expr.proofs.Exits.{handed, handed_mark}

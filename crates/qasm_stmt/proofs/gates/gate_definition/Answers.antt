@@ -1,9 +1,7 @@
-use Rattle.std.proofs.Common.{true, Some, drop, refl, le_refl, arith, length, ap}
-use Rattle.qasm_lexer.specs.declared.token.Keyword.TheVariants as k
+use Rattle.std.proofs.Common.{refl, le_refl, arith, length, ap}
 use Rattle.qasm_ast.specs.Tree.{gate}
-use Rattle.qasm_grammar.specs.Reader.{name_kinds, read_keyword, read_name, read_names, read_any_gate_parameters, read_gate_body, read_gate_definition}
-use Rattle.qasm_expr.specs.Reader.{read_listed}
-use Rattle.qasm_stmt.specs.Seen.{IsName, IsLine}
+use Rattle.qasm_grammar.specs.Reader.{read_names, read_gate_definition}
+use Rattle.qasm_stmt.specs.Seen.{IsName}
 use Rattle.qasm_stmt.proofs.Growing.{grown_on, name_later}
 use Rattle.qasm_expr.proofs.Exits.{handed}
 use Rattle.qasm_stmt.proofs.Compound.{list_on, gate_line}

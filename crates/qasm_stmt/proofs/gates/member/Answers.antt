@@ -1,6 +1,6 @@
 use Rattle.std.proofs.Common.{Some, drop, refl, sym, subst, ◌∙◌, le_refl}
-use Rattle.qasm_grammar.specs.Reader.{read_call_line, read_barrier_line, read_member}
-use Rattle.qasm_stmt.specs.Seen.{Spare, IsMember, tree, stmt}
+use Rattle.qasm_grammar.specs.Reader.{read_member}
+use Rattle.qasm_stmt.specs.Seen.{Spare, tree, stmt}
 use Rattle.qasm_stmt.proofs.Growing.{grown_on}
 use Rattle.qasm_stmt.proofs.Showing.{pushed_grown, pushed_sound, pushed_member}
 use Rattle.qasm_expr.proofs.Exits.{handed}

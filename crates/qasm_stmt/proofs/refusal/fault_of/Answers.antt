@@ -2,7 +2,7 @@ use Rattle.std.proofs.Common.{◌≡◌, Some, length, take, drop, sym, subst}
 use Rattle.qq_base.specs.declared.refusal.Fault.TheVariants.{Refused}
 use Rattle.qasm_expr.specs.Answer.{IsWithin}
 use Rattle.qasm_grammar.specs.Answer.{rule_of}
-use Rattle.qasm_stmt.specs.Parsed.{IsFault}
+use Rattle.qasm_stmt.specs.Refusing.{IsFault}
 use Rattle.qasm_stmt.proofs.Programs.{fault_syntax}
 use Rattle.qasm_stmt.proofs.refusal.fault_of.Goals as goal
 

@@ -1,18 +1,17 @@
-use Rattle.std.proofs.Common.{◌≡◌, ◌+◌, ◌-◌, ◌≤◌, ◌<◌, ◌∷◌, ◌++◌, [], List, Vec, Global, true, false, Some, None, Ok, length, drop, refl, sym, ap, subst, ◌∙◌, le_refl, length-drop, length-append, arith}
+use Rattle.std.proofs.Common.{◌≡◌, ◌+◌, ◌≤◌, ◌<◌, ◌∷◌, ◌++◌, [], true, false, Some, None, Ok, length, drop, refl, sym, ap, subst, ◌∙◌, le_refl, length-drop, length-append, arith}
 use Rattle.qasm_lexer.specs.declared.token.Keyword.TheVariants as k
 use Rattle.qasm_lexer.specs.declared.token.Mark.TheVariants as m
 use Rattle.qasm_ast.specs.declared.stmt.StmtId.{StmtId}
 use Rattle.qasm_ast.specs.Tree.{a_statement, no_statement, while, subroutine}
 use Rattle.qasm_expr.specs.TokenKinds.{keyword_kind, mark_kind}
-use Rattle.qasm_expr.specs.Reader.{read_opener}
 use Rattle.qasm_expr.proofs.Exits.{behind, handed, handed_mark}
 use Rattle.qasm_expr.proofs.Places.{heads_sign, passes_yes}
 use Rattle.qasm_expr.proofs.Units.{pushed}
 use Rattle.qasm_grammar.specs.Grammar.{without_else, with_else, for_of}
 use Rattle.qasm_grammar.specs.Parts.{Opened, opened_statements, close_or}
-use Rattle.qasm_grammar.specs.Reader.{stmt_kinds, read_keyword, read_symbol, read_name, read_condition, read_any_type, read_turns, read_parameters, read_result, read_inclusion, read_qubit_line, read_qreg_line, read_creg_line, read_variable_line, read_constant_line, read_output_line, read_alias_line, read_gate_definition, read_subroutine_definition, read_declaration, read_action, read_behind_body, read_conditional, read_while_loop, read_for_loop, read_control, read_stmt_at, read_stmt, read_all_stmts}
+use Rattle.qasm_grammar.specs.Reader.{stmt_kinds, read_inclusion, read_qubit_line, read_qreg_line, read_creg_line, read_variable_line, read_constant_line, read_output_line, read_alias_line, read_gate_definition, read_subroutine_definition, read_declaration, read_behind_body, read_conditional, read_while_loop, read_for_loop, read_control, read_stmt_at, read_stmt}
 use Rattle.qasm_grammar.proofs.Moves.{stmt_moves}
-use Rattle.qasm_stmt.specs.Seen.{Each, IsType, IsParameter, IsTurns, IsStatement, IsStatements, IsBlock, IsBody, IsLine, IsOpenLine, deeper_block, deeper_body}
+use Rattle.qasm_stmt.specs.Seen.{Each, IsType, IsParameter, IsTurns, IsStatement, IsStatements, IsLine, IsOpenLine, deeper_block, deeper_body}
 use Rattle.qasm_stmt.proofs.Growing.{each_none, grown_same, grown_on, each_on, each_push, if_both_on, tree_later, type_later, name_later, parameter_later, statement_later, statements_later}
 use Rattle.qasm_stmt.proofs.Showing.{pushed_statement, pushed_sound}
 use Rattle.qasm_expr.proofs.Loops.{repeating_start, repeating_stop, repeating_err, repeating_more}
