@@ -3,6 +3,7 @@
 ghost use Rattle.std.specs.Prelude.{◌≡◌, ◌≤◌, Some, Ok, length, nat_eq, IfOk};
 ghost use Rattle.std.specs.List.{IsDistinct};
 ghost use Rattle.std.specs.Cmp.Lexicographic.{pointwise};
+ghost use Rattle.qasm_ast.specs.View.{level};
 ghost use Rattle.qasm_lexer.specs.Tokens.{Tokens};
 ghost use Rattle.qasm_stmt.specs.Parsed.{IsParsed};
 
@@ -12,6 +13,7 @@ use crate::whole::whole;
 use indexmap::IndexSet;
 use qasm_ast::{Items, Program, Word};
 use qasm_expr::parts::Stop;
+use qasm_grammar::programs_fit_their_room;
 use qasm_lexer::{MOST_BYTES, Token, end_of};
 use qq_base::Fault;
 use std::alloc::{AllocError, Global};
@@ -31,11 +33,14 @@ fn words(alloc: Global, names: IndexSet<Word>) -> Result<Vec<Word>, AllocError>
 /// Else it refuses at the first token after which no program goes on, or at the end of the text: by
 /// `NestingDeep` where only a limit forbids the token, by `LeftOut` at what the profile leaves out, by
 /// `Version` at another version or a second `OPENQASM`, by `Include` at another file, and else by `Syntax`.
+/// The tree has at most 64 levels.
 pub fn parse_program(alloc: Global, text: &str, tokens: &[Token]) -> Result<Program, Fault>
     requires size { length text.now ≤ MOST_BYTES }
     requires lexed { Tokens text.now (Ok tokens.now) }
-    ensures { IsParsed text.now tokens.now result }
+    ensures parsed { IsParsed text.now tokens.now result }
+    ensures levels { IfOk result (λ p. level p ≤ 64) }
 {
+    programs_fit_their_room();
     let mut arena = Arena::new(alloc);
     let (top, at) = match whole(alloc, text.as_bytes(), tokens, &mut arena) {
         Ok(found) => found,

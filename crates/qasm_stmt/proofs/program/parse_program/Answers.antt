@@ -3,6 +3,7 @@ use Rattle.std.specs.List.{IsDistinct}
 use Rattle.std.specs.Cmp.Lexicographic.{pointwise}
 use Rattle.qasm_ast.specs.declared.stmt.StmtId.{StmtId}
 use Rattle.qasm_ast.specs.Tree.{Statements}
+use Rattle.qasm_ast.specs.View.{statements_of}
 use Rattle.qasm_ast.specs.Whole.{Source}
 use Rattle.qasm_lexer.specs.Tokens.{place_of}
 use Rattle.qasm_expr.specs.declared.stop.Stop.TheVariants as e
@@ -20,16 +21,16 @@ whole-requires-clause-cut c = subst (λ text. Cut text c.args.tokens.now) (sym c
 pub fault_of-requires-clause-cut : goal.fault_of-requires-clause-cut
 fault_of-requires-clause-cut c = cut_of c.args.text.now c.args.tokens.now c.requires.size c.requires.lexed
 
-pub returns-in-Err : goal.returns-in-Err
-returns-in-Err c =
+pub returns-in-Err-clause-parsed : goal.returns-in-Err-clause-parsed
+returns-in-Err-clause-parsed c =
     let gives = subst (λ text. Gives (λ (v : Vec StmtId Global) (ss : Statements). IsStatements c.whole.new.arena v.items ss) c.args.tokens.now 0 (read_program text (Some 64) 64 c.args.tokens.now) (Err c.in-Err.stop)) c.as_bytes.ensures.value c.in-Err.ensures.gives in
     fault_parsed c.args.text.now c.args.tokens.now c.in-Err.stop c.fault_of.result (stops_at (λ (v : Vec StmtId Global) (ss : Statements). IsStatements c.whole.new.arena v.items ss) c.args.text.now c.args.tokens.now c.in-Err.stop gives) c.fault_of.ensures
 
 pub fault_of-requires-then-at-tokens-clause-cut : goal.fault_of-requires-then-at-tokens-clause-cut
 fault_of-requires-then-at-tokens-clause-cut c = cut_of c.args.text.now c.args.tokens.now c.requires.size c.requires.lexed
 
-pub returns-then-at-tokens : goal.returns-then-at-tokens
-returns-then-at-tokens c =
+pub returns-then-at-tokens-clause-parsed : goal.returns-then-at-tokens-clause-parsed
+returns-then-at-tokens-clause-parsed c =
     let g = c.in-Ok.ensures.gives in
     let read = subst (λ text. read_program text (Some 64) 64 c.args.tokens.now ≡ Ok (g.0, drop c.in-Ok.found.1 c.args.tokens.now)) c.as_bytes.ensures.value g.4 in
     fault_parsed c.args.text.now c.args.tokens.now (e.Syntax c.in-Ok.found.1) c.fault_of-then-at-tokens.result (stops_early c.args.text.now c.args.tokens.now c.in-Ok.found.1 g.0 c.if-at-tokens.true read) c.fault_of-then-at-tokens.ensures
@@ -45,5 +46,7 @@ returns c =
     let g = c.in-Ok.ensures.gives in
     let read = subst (λ text. read_program text (Some 64) 64 c.args.tokens.now ≡ Ok (g.0, drop c.in-Ok.found.1 c.args.tokens.now)) c.as_bytes.ensures.value g.4 in
     let place = subst (λ text. c.end_of-end.result ≡ place_of text (length text)) c.as_bytes-2.ensures.value c.end_of-end.ensures in
+    let parsed : IsParsed c.args.text.now c.args.tokens.now (Ok c.in_ok-new.field-0) =
     subst (λ (p : Source). IsParsed c.args.text.now c.args.tokens.now (Ok p)) (sym c.in_ok-new.ensures)
-    (whole_parsed c.args.text.now c.args.tokens.now c.whole.new.arena c.in-Ok.found.1 c.in-Ok-words.names.items c.in-Ok.found.0.items c.end_of-end.result g.0 c.in-Ok-words.ensures.items g.1.1 read g.3 (omega arith) place)
+    (whole_parsed c.args.text.now c.args.tokens.now c.whole.new.arena c.in-Ok.found.1 c.in-Ok-words.names.items c.in-Ok.found.0.items c.end_of-end.result g.0 c.in-Ok-words.ensures.items g.1.1 read g.3 (omega arith) place) in
+    record { parsed = parsed; levels = c.programs_fit_their_room.ensures c.args.text.now (Some 64) 64 c.args.tokens.now (statements_of c.in_ok-new.field-0) parsed.0 }
