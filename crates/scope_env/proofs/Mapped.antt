@@ -1,5 +1,5 @@
 -- What a name finds, where a function is applied to all values.
-use Rattle.std.proofs.Common.{◌≡◌, ℕ, Bool, true, false, List, [], ◌∷◌, Option, None, Some, nat_eq, refl, arith, map, cond}
+use Rattle.std.proofs.Common.{◌≡◌, ℕ, Bool, true, false, List, [], ◌∷◌, Option, None, Some, nat_eq, refl, map, cond}
 use Rattle.std.specs.Map.{lookup}
 use Rattle.std.specs.Option.{option_or, option_map}
 use Rattle.scope_env.specs.Scopes.{find, map_values}

@@ -1,6 +1,4 @@
 use Rattle.std.proofs.Common.{◌≡◌, nat_eq, None, arith}
-use Rattle.std.specs.declared.hash.FoldHasher.{FoldHasher}
-use Rattle.std.specs.declared.hash.BuildHasherDefault.{BuildHasherDefault}
 use Rattle.indexmap.specs.IndexMap.{get}
 use Rattle.scope_env.proofs.Entries.{ReadAlike-insert, reverse-insert}
 use Rattle.scope_env.proofs.scope.Scope.declare.Goals as goal

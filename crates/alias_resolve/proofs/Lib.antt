@@ -1,0 +1,6 @@
+pub mod Answers
+pub mod Bits
+pub mod Bounds
+pub mod Placing
+pub mod Ranges
+pub mod Turns
