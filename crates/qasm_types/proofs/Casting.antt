@@ -1,13 +1,13 @@
 -- The rows of the table of casts are those that the code's tests find.
 use Rattle.std.proofs.Common.{◌≡◌, ℕ, ◌≤◌, true, ◌&&◌, ℤ, refl, sym, ap, subst, ◌∙◌, eq-eqb, nat_eq, nat_le, arith}
 use Rattle.std.proofs.lemmas.Bool.{eqb-true, leb-true}
-use Rattle.std.proofs.lemmas.Bool.Decides.{Decides-and, Decides-eqb, Decides-ltb}
+use Rattle.std.proofs.lemmas.Bool.Decides.{Decides-and}
 use Rattle.std.specs.Bool.{Decides}
 use Rattle.qasm_types.specs.declared.ty.Ty.{Ty}
 use Rattle.qasm_types.specs.declared.ty.Ty.TheVariants as t
 use Rattle.qasm_types.specs.Types.{width_of, IsTruth, IsWord}
-use Rattle.qasm_types.specs.Casts.{HasCast, IsPattern, SameType, TruthToTruth, TruthToWord, WordToBool, WordToWord, WordToBits, WordToBit, BitsToWord, BitsToBool, BitsToAngle, AngleToBits, AngleToAngle, AngleToBool, ConstantToWord, ConstantToBool, ConstantToBits, ConstantToBit, ConstantToAngle, FractionToAngle}
-use Rattle.qasm_types.specs.Plans.{casts, is_word, is_truth, word_casts, bits_cast, angle_casts, constant_casts, is_pattern}
+use Rattle.qasm_types.specs.Casts.{HasCast, SameType, TruthToTruth, TruthToWord, WordToBool, WordToWord, WordToBits, WordToBit, BitsToWord, BitsToBool, BitsToAngle, AngleToBits, AngleToAngle, AngleToBool, ConstantToWord, ConstantToBool, ConstantToBits, ConstantToBit, ConstantToAngle, FractionToAngle}
+use Rattle.qasm_types.specs.Plans.{casts, word_casts, bits_cast, angle_casts, constant_casts, is_pattern}
 use Rattle.qasm_types.proofs.ByKind.{word_cases, truth_cases, Decides-is_pattern}
 
 same : (n : ℕ) → nat_eq n n ≡ true

@@ -1,22 +1,21 @@
 -- The code's plans are rows of the table of operators.
-use Rattle.std.proofs.Common.{◌≡◌, ℕ, ◌≤◌, max, Bool, true, false, ◌&&◌, ℤ, Option, Some, None, refl, sym, ap, subst, ◌∙◌, ◌⊎◌, inl, inr, ⊎_elim, nat_le, nat_eq, ◌↔◌, if◌then◌else◌}
-use Rattle.std.specs.Option.{option_map, option_or}
+use Rattle.std.proofs.Common.{◌≡◌, max, Bool, true, false, ◌&&◌, ℤ, Some, None, refl, ap, subst, ◌⊎◌, inl, inr, ⊎_elim, nat_le, nat_eq, if◌then◌else◌}
+use Rattle.std.specs.Option.{option_or}
 use Rattle.std.proofs.lemmas.Bool.{eqb-true, leb-true}
 use Rattle.std.proofs.lemmas.Bool.Decides.{Decides-and, Decides-eqb}
 use Rattle.qasm_ast.specs.declared.expr.UnaryOp.{UnaryOp}
 use Rattle.qasm_ast.specs.declared.expr.UnaryOp.TheVariants as unary
 use Rattle.qasm_types.specs.declared.ty.Ty.{Ty}
 use Rattle.qasm_types.specs.declared.ty.Ty.TheVariants as t
-use Rattle.qasm_types.specs.Types.{IsTruth, IsWord}
-use Rattle.qasm_types.specs.Words.{MeetAt, IsTakenAs, constant_beside}
+use Rattle.qasm_types.specs.Types.{IsTruth}
+use Rattle.qasm_types.specs.Words.{MeetAt}
 use Rattle.qasm_types.specs.Operators as row
 use Rattle.qasm_types.specs.Operators.{HasRow, HasUnaryRow, Group, IsNumber, IsShifted, AnglesAt, AreConstants, AreTurns}
-use Rattle.qasm_types.specs.Plans.{Plan, all_at, compared, where_true, is_truth, is_word, is_number, words_plan, angles_plan, turns_plan, scales, shifts, wholes_plan, constant_shift, bits_plan, numbers_plan, truth_with_word, mixed_plan, sum_plan, quotient_plan, product_plan, rest_plan, shift_plan, bitwise_plan, compared_plan, equality_plan, order_plan, logic_plan, operator_plan, casts, unary_plan, met, complements, negates}
-use Rattle.qasm_types.proofs.ByKind.{word_cases, truth_cases}
+use Rattle.qasm_types.specs.Plans.{where_true, is_truth, is_number, words_plan, angles_plan, turns_plan, scales, shifts, wholes_plan, constant_shift, bits_plan, numbers_plan, truth_with_word, mixed_plan, sum_plan, quotient_plan, product_plan, rest_plan, shift_plan, bitwise_plan, compared_plan, equality_plan, order_plan, logic_plan, operator_plan, casts, unary_plan, met}
+use Rattle.qasm_types.proofs.ByKind.{word_cases}
 use Rattle.qasm_types.proofs.Casting.{casts_from_row, row_from_casts}
-use Rattle.qasm_types.proofs.Choices.{some_is, or_cases, where_true_cases, all_at_cases, compared_cases, choice_cases}
-use Rattle.qasm_types.proofs.Meeting.{meets_from_met, truth_rows, mixed_rows, AreMixed, small}
-use Rattle.qasm_types.proofs.Planning.{plan_from_row}
+use Rattle.qasm_types.proofs.Choices.{some_is, or_cases, where_true_cases, all_at_cases, compared_cases}
+use Rattle.qasm_types.proofs.Meeting.{meets_from_met, truth_rows, mixed_rows, small}
 
 -- a row whose types are the three of a plan
 abbrev pub RowAt : Group → Ty → ℤ → Ty → ℤ → Ty × Ty × Ty → Type 0

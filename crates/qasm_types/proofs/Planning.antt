@@ -1,13 +1,13 @@
 -- The rows of the table of operators are found by the code's plans.
-use Rattle.std.proofs.Common.{◌≡◌, ℕ, ◌≤◌, max, true, ◌&&◌, ℤ, Some, None, refl, sym, ap, subst, ◌∙◌, nat_le, nat_eq, eq-eqb}
-use Rattle.std.specs.Option.{option_map, option_or}
+use Rattle.std.proofs.Common.{◌≡◌, ℕ, max, true, ◌&&◌, ℤ, Some, None, refl, ap, ◌∙◌, nat_le, nat_eq, eq-eqb}
+use Rattle.std.specs.Option.{option_or}
 use Rattle.qasm_types.specs.declared.ty.Ty.{Ty}
 use Rattle.qasm_types.specs.declared.ty.Ty.TheVariants as t
-use Rattle.qasm_types.specs.Types.{IsTruth, IsWord}
+use Rattle.qasm_types.specs.Types.{IsTruth}
 use Rattle.qasm_types.specs.Words.{MeetAt, IsTakenAs, constant_beside}
 use Rattle.qasm_types.specs.Operators as row
 use Rattle.qasm_types.specs.Operators.{HasRow, Group, IsNumber, IsShifted, AnglesAt, AreConstants}
-use Rattle.qasm_types.specs.Plans.{Plan, all_at, compared, where_true, words_plan, angles_plan, turns_plan, scales, shifts, wholes_plan, constant_shift, bits_plan, numbers_plan, truth_with_word, mixed_plan, sum_plan, quotient_plan, product_plan, rest_plan, shift_plan, bitwise_plan, compared_plan, equality_plan, order_plan, logic_plan, operator_plan, casts}
+use Rattle.qasm_types.specs.Plans.{Plan, all_at, compared, where_true, words_plan, angles_plan, turns_plan, scales, wholes_plan, bits_plan, numbers_plan, truth_with_word, mixed_plan, quotient_plan, product_plan, shift_plan, bitwise_plan, compared_plan, equality_plan, operator_plan}
 use Rattle.qasm_types.proofs.ByKind.{word_cases, truth_cases}
 use Rattle.qasm_types.proofs.Casting.{casts_from_row}
 use Rattle.qasm_types.proofs.Choices.{where_same, third, fourth, chosen_none}

@@ -1,5 +1,5 @@
 -- The types of expressions: those of the OpenQASM 3.0 specification, "Types and Casting", as far as the profile has them, and beside them turns, whole constants and fractions of pi.
-use Rattle.std.specs.Prelude.{ℕ, ◌≤◌, ◌<◌, ◌^◌, ℤ, pos, neg_ℤ, ◌≤ℤ◌, ◌<ℤ◌}
+use Rattle.std.specs.Prelude.{ℕ, ◌≤◌, ◌^◌, ℤ, pos, neg_ℤ, ◌≤ℤ◌, ◌<ℤ◌}
 use Rattle.qasm_types.specs.declared.ty.Ty.{Ty}
 use Rattle.qasm_types.specs.declared.ty.Ty.TheVariants as t
 

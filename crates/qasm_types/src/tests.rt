@@ -1,5 +1,7 @@
 // The rows of the two tables, a row on each line, worked by hand from the tables of the language; and all pairs of types against a
 // second reading of the table of operators.
+ghost use Rattle.qasm_types.specs.Types.{IsType};
+
 use super::*;
 use qasm_ast::{BinaryOp, UnaryOp};
 use std::test::Fail;
@@ -123,27 +125,24 @@ fn operand(name: &str) -> Option<Operand> {
 }
 
 fn typed(kind: &str, width: u32) -> Option<Operand> {
-    if kind == "bits" {
-        return Some(Operand {
-            ty: Ty::Bits(width),
-            whole: 0,
-        });
+    match kind {
+        "bool" => Some(of(Ty::Bool)),
+        "bit" => Some(of(Ty::Bit)),
+        "bits" => Some(of(Ty::Bits(width))),
+        "int" if 1 <= width && width <= 64 => Some(of(Ty::Int(width))),
+        "uint" if 1 <= width && width <= 64 => Some(of(Ty::Uint(width))),
+        "angle" if 1 <= width && width <= 32 => Some(of(Ty::Angle(width))),
+        "turn" => Some(of(Ty::Turn)),
+        "whole" => Some(of(Ty::Whole)),
+        "pi" => Some(of(Ty::Pi)),
+        _ => None,
     }
-    if width < 1 || 64 < width || (kind == "angle" && 32 < width) {
-        return None;
-    }
-    let ty = match kind {
-        "bool" => Ty::Bool,
-        "bit" => Ty::Bit,
-        "int" => Ty::Int(width),
-        "uint" => Ty::Uint(width),
-        "angle" => Ty::Angle(width),
-        "turn" => Ty::Turn,
-        "pi" => Ty::Pi,
-        "whole" => Ty::Whole,
-        _ => return None,
-    };
-    Some(Operand { ty, whole: 0 })
+}
+
+fn of(ty: Ty) -> Operand
+    requires { IsType ty }
+{
+    Operand { ty, whole: 0 }
 }
 
 fn operator(symbol: &str) -> Option<BinaryOp> {

@@ -1,4 +1,4 @@
-use Rattle.std.proofs.Common.{◌≡◌, ◌∙◌, sym, ap, Some, None, Option, IsNone, IsSomeAnd, refl, ◌↔◌}
+use Rattle.std.proofs.Common.{◌≡◌, ◌∙◌, sym, Some, None, Option, IsNone, IsSomeAnd, refl}
 use Rattle.std.specs.Option.{option_map}
 use Rattle.qasm_types.specs.declared.ty.Ty.{Ty}
 use Rattle.qasm_types.specs.declared.operand.OpPlan.{OpPlan}

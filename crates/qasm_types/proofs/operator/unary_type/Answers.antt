@@ -1,4 +1,4 @@
-use Rattle.std.proofs.Common.{◌≡◌, ◌∙◌, sym, Some, None, Option, IsNone, ◌⊎◌, refl}
+use Rattle.std.proofs.Common.{◌≡◌, ◌∙◌, sym, Some, None, Option, IsNone, refl}
 use Rattle.qasm_types.specs.declared.ty.Ty.{Ty}
 use Rattle.qasm_types.proofs.Operating.{unary_from_row, row_from_unary}
 use Rattle.qasm_types.proofs.operator.unary_type.Goals as goal
