@@ -1,8 +1,8 @@
 // The types of expressions, and the two tables of the language: which casts there are, and at which types each operator
 // takes its operands.
 //
-// It stands on `qasm_ast` for the operators, and on `word_arith` for the values of a word type. No call takes memory or
-// refuses.
+// It stands on `qasm_ast` for the operators, on `word_arith` for the values of a word type, and on the definitions of
+// `angle_arith` for fractions of pi. No call takes memory or refuses.
 //
 // The layers above use:
 //
@@ -14,10 +14,14 @@
 // - that the types of an `Operand` and of an `OpPlan` are types of the language (`IsType` in `specs/Types.antt`): a word's
 //   width is from 1 to 64, an angle's from 1 to 32.
 //
+// `specs/Values.antt` has the values of the types, and what casts and operators give, for the layers that compute them
+// (`cast`, `result_of`, `apply_unary`); `worked_values` checks it against rows worked by hand.
+//
 // `Ty` is a plain enum, of which such a fact cannot be said in its declaration; it is part of the structs that hold one.
 #![tactic(auto)]
 
 mod cast;
+mod laws;
 mod operand;
 mod operator;
 mod plan;
@@ -27,6 +31,7 @@ mod ty;
 mod word;
 
 pub use cast::cast_of;
+pub use laws::worked_values;
 pub use operand::{OpPlan, Operand};
 pub use operator::{operator_type, unary_type};
 pub use ty::{Ty, cells};
