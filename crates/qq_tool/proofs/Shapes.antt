@@ -64,11 +64,10 @@ shaped_lines qubits bits k (Not qubit ∷ lines) small few within =
     ((tt, omega arith, (omega (arith, within.0), tt)), shaped_lines qubits bits k lines small (omega arith) within.1)
 shaped_lines qubits bits k (ControlledNot control target ∷ lines) small few within =
     ((tt, omega arith, (omega (arith, within.0.0), (omega (arith, within.0.1), tt))), shaped_lines qubits bits k lines small (omega arith) within.1)
-shaped_lines qubits bits k (Measure qubit bit ∷ lines) small few within =
-    (
-      (tt, omega arith, (omega (arith, within.0.0), (omega arith, tt))),
-      ((omega arith, omega arith, (omega arith, tt)), shaped_lines qubits bits (suc k) lines small (omega arith) within.1)
-    )
+shaped_lines qubits bits k (Measure qubit bit ∷ lines) small few within = (
+  (tt, omega arith, (omega (arith, within.0.0), (omega arith, tt))),
+  ((omega arith, omega arith, (omega arith, tt)), shaped_lines qubits bits (suc k) lines small (omega arith) within.1),
+)
 
 -- the operands of bits are truth values
 first_operands : (n : ℕ) → AllByRecursion IsTruth (replicate n (Fixed (pos 0)))
