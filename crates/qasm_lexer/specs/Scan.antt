@@ -1,5 +1,4 @@
--- For private contracts, but for `StopsAt`, which `Pieces` cites: words for the contracts of the scanners, what they skip
--- and what they find.
+-- Words for the contracts of the scanners: what they skip, and what they find.
 use Rattle.std.specs.Prelude.{◌≡◌, ℕ, ◌<◌, ◌≤◌, Bool, false, not, ◌&&◌, ◌||◌, ◌⊎◌, List, [], ◌∷◌, ◌++◌, ◌==◌, IsTrue, MatchBool, codes, length, Result, Ok, Err}
 use denote.Ref.{Bor}
 use Rattle.qq_base.specs.declared.rule.Rule.{Rule}
