@@ -9,18 +9,9 @@ use Rattle.qir_module.specs.declared.function.Function.{Function}
 use Rattle.qir_module.specs.declared.profile.Profile.TheVariants.{Adaptive}
 use Rattle.qir_module.specs.Module.{Module}
 use Rattle.qir_module.specs.Text.{line}
-use Rattle.qir_module.specs.Tokens.{Token, Breach}
-use Rattle.qir_module.specs.Lexer.{lexed}
-use Rattle.qir_module.specs.Reader.{answer, read_operand, read_binary, read_operation, read_conversion, read_choice, read_selection, read_id, read_argument, read_arguments, read_call, read_entry, read_phi_of, read_assigned, read_item, read_branch, read_last, read_items, read_block, read_blocks, read_function, read_label, read_labels, read_value_type, read_result_type, read_undoing, read_signature, read_signatures, read_heading, read_attributes, read_second_attributes, read_flag_list, read_flag_line, read_flags, read_ending}
+use Rattle.qir_module.specs.Tokens.{Breach}
+use Rattle.qir_module.specs.Reader.{read_text, read_operand, read_binary, read_operation, read_conversion, read_choice, read_selection, read_id, read_argument, read_arguments, read_call, read_entry, read_phi_of, read_assigned, read_item, read_branch, read_last, read_items, read_block, read_blocks, read_function, read_label, read_labels, read_value_type, read_result_type, read_undoing, read_signature, read_signatures, read_heading, read_attributes, read_second_attributes, read_flag_list, read_flag_line, read_flags, read_ending}
 use Rattle.qir_module.proofs.Worked.{call, read, function}
-
--- what is answered of the bytes of a text
-abbrev answer_of : List ℕ → Result (List Token) Breach → Result Module Breach
-answer_of text (Ok tokens) = answer text tokens
-answer_of text (Err breach) = Err breach
-
-abbrev read_text : List ℕ → Result Module Breach
-read_text text = answer_of text (lexed text)
 
 -- the lines of a text
 abbrev lines : List String → List ℕ

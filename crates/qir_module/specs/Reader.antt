@@ -19,6 +19,7 @@ use Rattle.qir_module.specs.Module.{Module}
 use Rattle.grammar_parts.specs.Reading.{Refusal, syntax, deep, Outcome, Reader, done, ◌>>=◌, take_one, take_never, choose, take_many, take_repeated}
 use Rattle.grammar_parts.specs.Kinds.{among, take_mark}
 use Rattle.qir_module.specs.Tokens.{TokenKind, Token, Breach}
+use Rattle.qir_module.specs.Lexer.{lexed}
 use Rattle.qir_module.specs.Words as w
 use Rattle.qir_module.specs.Words.{Reserved, Quoted, reserved_class, text_class, flag_text_class, group_class, flag_class, kind}
 use Rattle.qir_module.specs.Grammar.{number_at, small_at, register_at, target_at, block_at, constant_at, group_at, flag_at, bytes_at, reserved_at, text_at, name_at, and_then, arithmetic, logic, condition, numeral_in, passing, is_count, ends_in_zero, named_function, with_place, profile_named, type_word, truth_number, given, Item, AsPhi, AsInstr, is_phi, phis_of, instrs_of, ValueType, WordType, TruthType, PointerType, Signature, is_right, all_right, Heading, Attributes, Flags, module_of}
@@ -466,3 +467,11 @@ answer_behind text (Err refusal) = Err (breach_at text refusal)
 -- the module of the tokens of a text, or the first breach of a rule of modules
 abbrev pub answer : List ℕ → List Token → Result Module Breach
 answer text tokens = answer_behind text (read_heading tokens)
+
+-- the module of a text, or its first breach
+abbrev pub answer_of : List ℕ → Result (List Token) Breach → Result Module Breach
+answer_of text (Ok tokens) = answer text tokens
+answer_of text (Err breach) = Err breach
+
+abbrev pub read_text : List ℕ → Result Module Breach
+read_text text = answer_of text (lexed text)

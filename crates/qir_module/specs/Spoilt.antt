@@ -73,3 +73,8 @@ module _ (text : List ℕ) where
 -- The text spells no module, by this rule and there. The rules of tokens are asked over the whole text first.
 abbrev pub IsSpoilt : List ℕ → Breach → Type 0
 IsSpoilt text breach = Tokens text (Err breach) ⊎ ((tokens : List Token) × Tokens text (Ok tokens) × IsRefused text tokens breach)
+
+-- the text spells this module, or is spoilt so
+abbrev pub IsTextAnswer : List ℕ → Result Module Breach → Type 0
+IsTextAnswer text (Ok m) = IsTextOf text m
+IsTextAnswer text (Err breach) = IsSpoilt text breach
