@@ -1,5 +1,5 @@
 -- What stands first in a text is found, whatever its first character is.
-use Rattle.std.proofs.Common.{◌≡◌, ◌⊎◌, inl, inr, ℕ, zero, suc, ◌+◌, ◌<◌, ◌≤◌, Bool, true, false, not, ◌&&◌, ◌||◌, ◌==◌, List, [], ◌∷◌, ◌++◌, length, take, drop, codes, Option, Some, None, refl, sym, ap, ◌∙◌, subst, arith, eqb-true, append_assoc, length-append}
+use Rattle.std.proofs.Common.{◌≡◌, inl, inr, ℕ, zero, suc, ◌+◌, Bool, true, false, not, ◌&&◌, ◌||◌, ◌==◌, List, [], ◌∷◌, ◌++◌, length, take, drop, refl, sym, ap, ◌∙◌, subst, arith, eqb-true, append_assoc, length-append}
 use Rattle.std.specs.List.{list_all}
 use Rattle.std.specs.Char.{is_ascii_digit}
 use Rattle.std.proofs.Math.Seq.{take-append_seam}
@@ -7,11 +7,11 @@ use Rattle.std.proofs.lemmas.List.{take-append-drop, length-take-le}
 use Rattle.grammar_parts.proofs.Sets.{both_true}
 use Rattle.qir_module.specs.Tokens.{TokenKind, is_blank, ends_line, begins_word, continues_word, is_mark, Outside, EndsLine, Spells, is_misformed, NoToken, BreaksBy}
 use Rattle.qir_module.specs.Tokens as t
-use Rattle.qir_module.specs.Lexer.{Lead, Blank, Semicolon, Letter, Digit, Minus, Percent, At, Hash, Bang, Quote, OtherMark, Nothing, lead_of, Step, Gap, Found, Fails, run, heads, closed, or_else, found, number_step, name_step, quoted_step, value_of, plus, minus, numbered, block_behind, block_step, special_step, percent_step, step_by, step_of}
+use Rattle.qir_module.specs.Lexer.{Lead, Blank, Semicolon, Letter, Digit, Minus, Percent, At, Hash, Bang, Quote, OtherMark, Nothing, lead_of, Found, Fails, run, heads, or_else, found, name_step, quoted_step, value_of, plus, minus, numbered, block_behind, special_step, percent_step, step_by, step_of}
 use Rattle.qir_lexer.proofs.Runs.{run_on, run_off, run_le, run_all, run_exact, run_stops, Stopped}
-use Rattle.qir_lexer.proofs.Leads.{digit_no_word, LeadIs, lead_is}
-use Rattle.qir_lexer.proofs.Possible.{NumberFits, NameFits, QuotedFits, BlockFits, Possible, possible}
-use Rattle.qir_lexer.proofs.Steps.{Longest, TokenHolds, GapHolds, StepHolds, found_holds, number_case, name_case, quoted_case, drop_room, spells_numbered, spells_word, spells_quoted, run_digits, nothing_by, heads_is, digits_ahead, digit_no_name, other_head}
+use Rattle.qir_lexer.proofs.Leads.{LeadIs, lead_is}
+use Rattle.qir_lexer.proofs.Possible.{QuotedFits, BlockFits, Possible, possible}
+use Rattle.qir_lexer.proofs.Steps.{Longest, TokenHolds, GapHolds, StepHolds, found_holds, number_case, name_case, quoted_case, spells_numbered, spells_word, spells_quoted, run_digits, nothing_by, heads_is, digits_ahead, digit_no_name, other_head}
 
 or_true : (a : Bool) → (a || true) ≡ true
 or_true true = refl
@@ -27,7 +27,7 @@ line_ends (c ∷ cs) h = at (ends_line c) refl h
     at true e g = e
     at false e g = absurd (cc (ap not e, g))
 
-comment_holds : (c : ℕ) (cs : List ℕ) → c ≡ 59 → GapHolds (c ∷ cs) (suc (run (λ d. not (ends_line d)) cs))
+pub comment_holds : (c : ℕ) (cs : List ℕ) → c ≡ 59 → GapHolds (c ∷ cs) (suc (run (λ d. not (ends_line d)) cs))
 comment_holds c cs e = record {
   some = omega arith;
   inside = omega (arith, run_le (λ d. not (ends_line d)) cs);
@@ -82,10 +82,10 @@ module _ (c : ℕ) (cs : List ℕ) where
       (λ n e. spells_numbered text (64 ∷ []) n (one_sign 64 h) e)
       (λ n e other more kind g s. elim (may other more kind g s) [ inl p ↦ omega (arith, p.1, e) | inr p ↦ absurd (digit_no_name cs (digits_ahead cs n e) p.0) ])
       (λ e. name_case text t.Named 1 (Fails 2)
-        (λ f. (named_spells 64 h f, spells_word text cs f))
-        (λ xs w. refl)
-        (λ f other more kind g s. elim (may other more kind g s) [ inl p ↦ absurd (omega (arith, p.0, e)) | inr p ↦ p.1 ])
-        (λ f. lone 64 h refl refl refl (none_of At may (λ n p. elim p [ inl q ↦ absurd (omega (arith, q.0, e)) | inr q ↦ cc (q.0, f) ]))))
+      (λ f. (named_spells 64 h f, spells_word text cs f))
+      (λ xs w. refl)
+      (λ f other more kind g s. elim (may other more kind g s) [ inl p ↦ absurd (omega (arith, p.0, e)) | inr p ↦ p.1 ])
+      (λ f. lone 64 h refl refl refl (none_of At may (λ n p. elim p [ inl q ↦ absurd (omega (arith, q.0, e)) | inr q ↦ cc (q.0, f) ]))))
 
   bang_mark : May Bang → c ≡ 33 → run is_ascii_digit cs ≡ 0 → heads begins_word cs ≡ false → ((n : ℕ) → QuotedFits 1 text n → ⊥) → TokenHolds text (t.Mark 33) 1
   bang_mark may h e f none = record {
@@ -122,15 +122,15 @@ module _ (c : ℕ) (cs : List ℕ) where
         | inr (inr (inr p)) ↦ omega (arith, p)
       ])
       (λ e. name_case text t.FlagName 1 (or_else (quoted_step t.FlagText 1 text) (Found (t.Mark 33) 1))
-        (λ f. (named_spells 33 h f, spells_word text cs f))
-        (λ xs w. refl)
-        (λ f other more kind g s. elim (may other more kind g s) [
-          | inl p ↦ absurd (omega (arith, p.0, e))
-          | inr (inl p) ↦ p.1
-          | inr (inr (inl p)) ↦ absurd (other_head begins_word 34 cs refl f p.0)
-          | inr (inr (inr p)) ↦ omega (arith, p)
-        ])
-        (λ f. flag_text_holds may h e f))
+      (λ f. (named_spells 33 h f, spells_word text cs f))
+      (λ xs w. refl)
+      (λ f other more kind g s. elim (may other more kind g s) [
+        | inl p ↦ absurd (omega (arith, p.0, e))
+        | inr (inl p) ↦ p.1
+        | inr (inr (inl p)) ↦ absurd (other_head begins_word 34 cs refl f p.0)
+        | inr (inr (inr p)) ↦ omega (arith, p)
+      ])
+      (λ f. flag_text_holds may h e f))
 
   -- ---- registers and targets
 

@@ -1,8 +1,14 @@
+mod Finding
 mod LeadSteps
 mod Leads
+mod Lexed
+mod OneReading
 mod Parts
 mod Possible
+mod Readings
 mod Runs
+mod Scanning
 mod Steps
 mod Terminals
 mod Whole
+mod WholeSteps

@@ -1,35 +1,32 @@
 -- Each part of the grammar is read exactly.
-use Rattle.std.proofs.Common.{◌≡◌, inl, inr, ℕ, zero, suc, Bool, true, false, cond, not, ◌&&◌, List, [], ◌∷◌, ◌++◌, length, Option, Some, None, ℤ, pos, refl, sym, ap, subst, ◌∙◌}
+use Rattle.std.proofs.Common.{◌≡◌, ℕ, Bool, true, false, cond, not, ◌&&◌, List, [], ◌∷◌, ◌++◌, length, Option, Some, None, refl, sym, ap, ◌∙◌}
 use Rattle.std.specs.Prelude.{nat_eq}
 use Rattle.qq_base.specs.declared.refusal.Span.{Span}
 use Rattle.qir_module.specs.declared.instruction.Operand.{Operand}
 use Rattle.qir_module.specs.declared.instruction.Operand.TheVariants as o
 use Rattle.qir_module.specs.declared.instruction.Opcode.{Opcode}
-use Rattle.qir_module.specs.declared.instruction.Arg.{Arg}
 use Rattle.qir_module.specs.declared.instruction.Arg.TheVariants as a
-use Rattle.qir_module.specs.declared.instruction.Instr.{Instr}
 use Rattle.qir_module.specs.declared.instruction.Instr.TheVariants as i
 use Rattle.qir_module.specs.declared.instruction.Last.{Last}
 use Rattle.qir_module.specs.declared.instruction.Last.TheVariants as l
 use Rattle.qir_module.specs.declared.function.Function.{Function}
-use Rattle.qir_module.specs.declared.block.Phi.{Phi}
 use Rattle.qir_module.specs.declared.block.Block.{Block}
 use Rattle.qir_module.specs.declared.profile.Profile.{Profile}
 use Rattle.qir_module.specs.Module.{Module}
-use Rattle.grammar_parts.specs.Part.{Part, nothing, never, one, then, either, many, repeated}
-use Rattle.grammar_parts.specs.Reading.{Reader, done, ◌>>=◌, take_one, take_never, take_many}
+use Rattle.grammar_parts.specs.Part.{Part, nothing, never, then, either, repeated}
+use Rattle.grammar_parts.specs.Reading.{Reader, done, take_one}
 use Rattle.grammar_parts.specs.Kinds.{has, disjoint, among, Among, is_some, take_mark}
 use Rattle.grammar_parts.specs.Law.{Fine, Follows, Filled}
 use Rattle.grammar_parts.proofs.Fine.{fine_never, fine_wider}
 use Rattle.grammar_parts.proofs.Following.{follows_never, follows_wider, follows_then, follows_many}
-use Rattle.grammar_parts.proofs.Sets.{Tells, has_apart, has_front, has_back, has_within, miss}
+use Rattle.grammar_parts.proofs.Sets.{Tells, has_apart, has_front, has_back, miss}
 use Rattle.grammar_parts.proofs.Productions.{Reads, May, reads_one, reads_mark, reads_never, reads_then, reads_more, may_then, reads_map, may_map, reads_either, may_left_out, may_repeated, may_many, reads_sets}
 use Rattle.qir_module.specs.Tokens.{TokenKind, Token}
 use Rattle.qir_module.specs.Words as w
 use Rattle.qir_module.specs.Words.{Reserved, Quoted, reserved_class, text_class, flag_text_class, group_class, flag_class, kind, function_named}
-use Rattle.qir_module.specs.Grammar.{sign, ◌▸◌, number_at, constant_at, group_at, flag_at, bytes_at, is_count, ends_in_zero, name_at, text_at, and_then, passing, passing_value, numbered, label_bytes, named_function, or_none, with_place, function_name, profile_in, or_base, reserved_at, type_word, profile_named, profile, stray, stray_word, separated, in_parens, typed, truth, truth_number, operand, binary, operation, conversion, choice, selection, id, value_argument, pointer_argument, argument, given, Item, AsPhi, AsInstr, is_phi, entry, phi_of, phi, early_phi, call, assigned, item, label_target, branch, last, items, phis_of, instrs_of, block, function, label, labels, ValueType, WordType, TruthType, PointerType, Signature, is_right, all_right, value_type, result_type, undoing, signature, signature_behind, signatures, Heading, heading, Attributes, keyed, attributes, second_attributes, flag_list, flag_line, Flags, flags, module_of, ending, module_part}
-use Rattle.qir_module.specs.Reader.{word_kinds, operand_kinds, type_kinds, stray_kinds, operation_kinds, conversion_kinds, id_kinds, argument_kinds, value_type_kinds, instruction_kinds, item_kinds, block_kinds, label_kinds, phi_kinds, signature_kinds, ◌▹◌, read_passing, read_numbered, read_label_bytes, function_at, read_function_name, profile_at, read_profile, read_stray, read_nothing, read_separated, read_in_parens, read_typed, read_truth, read_operand, read_binary, read_operation, read_conversion, read_choice, read_selection, read_id, read_value_argument, read_pointer_argument, read_argument, read_arguments, read_call, read_entry, read_phi_of, read_phi, read_instruction, read_early_phi, read_assigned, read_item, read_label_target, read_branch, read_last, next_phis, read_items, read_block, read_blocks, read_function, read_label, next_label, read_labels, read_value_type, read_result_type, read_undoing, read_signature, read_signature_behind, still_right, read_signatures, read_heading, read_keyed, read_attributes, read_second_attributes, read_flag_list, read_flag_line, read_flags, read_ending, read_module}
-use Rattle.qir_lexer.proofs.Terminals.{name_set, group_set, flag_set, text_set, small_kinds, tells_number, tells_small, tells_register, tells_target, tells_block, tells_constant, tells_group, tells_flag, tells_bytes, tells_arithmetic, tells_logic, tells_condition, tells_stray, tells_numeral, tells_profile, tells_function, reads_strictly}
+use Rattle.qir_module.specs.Grammar.{sign, ◌▸◌, constant_at, group_at, flag_at, bytes_at, is_count, ends_in_zero, name_at, text_at, and_then, passing, passing_value, named_function, or_none, with_place, function_name, profile_in, or_base, reserved_at, type_word, profile_named, profile, stray, stray_word, separated, in_parens, typed, truth, truth_number, operand, binary, operation, conversion, choice, selection, id, value_argument, argument, given, Item, AsPhi, AsInstr, entry, phi_of, phi, early_phi, call, assigned, item, label_target, branch, last, items, phis_of, instrs_of, block, function, label, labels, ValueType, WordType, TruthType, PointerType, Signature, all_right, value_type, result_type, undoing, signature, signature_behind, signatures, Heading, heading, Attributes, keyed, attributes, second_attributes, flag_list, flag_line, Flags, flags, module_of, module_part}
+use Rattle.qir_module.specs.Reader.{word_kinds, operand_kinds, type_kinds, stray_kinds, operation_kinds, conversion_kinds, id_kinds, argument_kinds, value_type_kinds, instruction_kinds, item_kinds, block_kinds, label_kinds, phi_kinds, signature_kinds, ◌▹◌, read_passing, function_at, read_function_name, profile_at, read_profile, read_stray, read_nothing, read_separated, read_in_parens, read_typed, read_truth, read_operand, read_binary, read_operation, read_conversion, read_choice, read_selection, read_id, read_value_argument, read_argument, read_arguments, read_call, read_entry, read_phi_of, read_phi, read_instruction, read_early_phi, read_assigned, read_item, read_label_target, read_branch, read_last, next_phis, read_items, read_block, read_blocks, read_function, read_label, next_label, read_labels, read_value_type, read_result_type, read_undoing, read_signature, read_signature_behind, still_right, read_signatures, read_heading, read_keyed, read_attributes, read_second_attributes, read_flag_list, read_flag_line, read_flags, read_ending, read_module}
+use Rattle.qir_lexer.proofs.Terminals.{name_set, flag_set, text_set, tells_number, tells_small, tells_register, tells_target, tells_block, tells_constant, tells_group, tells_flag, tells_bytes, tells_arithmetic, tells_logic, tells_condition, tells_stray, tells_numeral, tells_profile, tells_function, reads_strictly}
 
 -- a part that is read exactly; these kinds begin it, and only those go on behind a whole one
 abbrev pub Exact : {A : Type 0} → Part Token A → Part Token A → Reader Token A → List ℕ → List ℕ → Type 0
@@ -327,6 +324,7 @@ reads_attributes =
     behind_sign 202 (reads_then kind (reads_passing (nat_eq 0) group_at tells_group) (λ u. behind_sign 61 (behind_sign 123 (behind_sign 300
     (reads_then kind (reads_keyed w.Profiles reads_profile) (λ p. reads_then kind (reads_keyed w.LabelingSchema (reads_mark kind 304)) (λ u.
     reads_then kind (reads_keyed w.RequiredQubits (reads_one kind tells_numeral)) (λ n. reads_then kind (reads_keyed w.RequiredResults (reads_one kind tells_numeral)) (λ k. sign_for 125 (attributes_of p n k)) refl) refl) refl) refl)))) refl)
+
 reads_second_attributes : Exact (second_attributes false) (second_attributes true) read_second_attributes (word_kinds w.Attributes) []
 unfolding read_second_attributes
 reads_second_attributes = behind_sign 202 (reads_then kind (reads_passing (nat_eq 1) group_at tells_group) (λ u. behind_sign 61 (behind_sign 123 (behind_sign 307 (reads_mark kind 125)))) refl)
@@ -346,6 +344,7 @@ unfolding read_flags
 reads_flags =
     reads_then kind reads_flag_list (λ u. reads_then kind (reads_flag_line 0 140 w.MajorVersion w.I32 (reads_one kind tells_small)) (λ major. reads_then kind (reads_flag_line 1 141 w.MinorVersion w.I32 (reads_one kind tells_small)) (λ minor.
     reads_then kind (reads_flag_line 2 140 w.DynamicQubits w.I1 reads_truth) (λ qubits. reads_map kind (λ results. flags_of major minor qubits results) (reads_flag_line 3 140 w.DynamicResults w.I1 reads_truth)) refl) refl) refl) refl
+
 -- ---- the module
 
 abbrev pub whole_ending : Bool → Heading → Part Token Module

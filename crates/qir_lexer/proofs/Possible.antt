@@ -1,13 +1,12 @@
 -- How long a token may be that begins a text, by the text's first character.
-use Rattle.std.proofs.Common.{◌≡◌, ◌⊎◌, inl, inr, ℕ, zero, suc, ◌+◌, ◌<◌, ◌≤◌, Bool, true, false, ◌&&◌, ◌||◌, ◌==◌, List, [], ◌∷◌, ◌++◌, length, take, drop, codes, Option, Some, None, ℤ, refl, sym, ap, ◌∙◌, subst, arith, append-nil, append_assoc, length-append}
-use Rattle.std.specs.Prelude.{IsTrue}
+use Rattle.std.proofs.Common.{◌≡◌, ◌⊎◌, inl, inr, ℕ, suc, ◌+◌, ◌<◌, ◌≤◌, true, ◌&&◌, ◌||◌, ◌==◌, List, [], ◌∷◌, ◌++◌, length, drop, Some, refl, sym, ap, ◌∙◌, subst, arith, append-nil, append_assoc, length-append}
 use Rattle.std.proofs.Math.Seq.{drop-append_seam}
 use Rattle.std.specs.List.{list_all}
 use Rattle.std.specs.Char.{is_ascii_digit}
 use Rattle.grammar_parts.proofs.Sets.{both_true}
 use Rattle.qir_module.specs.Tokens.{TokenKind, begins_word, continues_word, is_mark, Outside, IsWord, AreDigits, IsNumbered, IsNumber, IsQuoted, is_body, Spells}
 use Rattle.qir_module.specs.Tokens as t
-use Rattle.qir_module.specs.Lexer.{Lead, Blank, Semicolon, Letter, Digit, Minus, Percent, At, Hash, Bang, Quote, OtherMark, Nothing, lead_of, run, heads, closed}
+use Rattle.qir_module.specs.Lexer.{Lead, Letter, Digit, Minus, Percent, At, Hash, Bang, Quote, OtherMark, lead_of, run, heads, closed}
 use Rattle.qir_lexer.proofs.Runs.{run_most, run_exact, closed_is}
 use Rattle.qir_lexer.proofs.Leads.{letter_lead, digit_lead, mark_lead}
 
@@ -47,7 +46,7 @@ digits_fit : (ds more : List ℕ) → AreDigits ds → (0 < run is_ascii_digit (
 digits_fit ds more a = let m : length ds ≤ run is_ascii_digit (ds ++ more) = run_most is_ascii_digit ds more a.each in (omega (arith, m, a.some), m)
 
 -- the characters behind a front, where nothing else is behind the digits
-numbered_as : (front cs : List ℕ) (n : ℕ) (h : IsNumbered front [] cs n) → cs ≡ front ++ h.digits
+pub numbered_as : (front cs : List ℕ) (n : ℕ) (h : IsNumbered front [] cs n) → cs ≡ front ++ h.digits
 numbered_as front cs n h = h.split ∙ append-nil (front ++ h.digits)
 
 behind_one : (ds more : List ℕ) (c : ℕ) → AreDigits ds → NumberFits 1 (c ∷ (ds ++ more)) (suc (length ds))
@@ -59,7 +58,7 @@ behind_two ds more c d a = let f = digits_fit ds more a in (f.0, omega (arith, f
 continues : (c : ℕ) → begins_word c ≡ true → continues_word c ≡ true
 continues c e = ap (λ b. b || is_ascii_digit c || (c == 46)) e
 
-word_all : (w : List ℕ) → IsWord w → list_all continues_word w ≡ true
+pub word_all : (w : List ℕ) → IsWord w → list_all continues_word w ≡ true
 word_all [] h = absurd h
 word_all (c ∷ cs) h = ap (λ b. b && list_all continues_word cs) (continues c h.0) ∙ h.1
 
@@ -98,10 +97,11 @@ block_fits : (ds more : List ℕ) → AreDigits ds → BlockFits (98 ∷ ((ds ++
 block_fits ds more a =
     let tail : (ds ++ 58 ∷ []) ++ more ≡ ds ++ 58 ∷ more = append_assoc ds (58 ∷ []) more in
     let size : run is_ascii_digit ((ds ++ 58 ∷ []) ++ more) ≡ length ds = ap (run is_ascii_digit) tail ∙ run_exact is_ascii_digit ds 58 more a.each refl in
-    let one : 1 + length ds ≡ suc (length ds) = omega arith in
-    (omega (arith, size, a.some),
-    ap (λ n. heads (λ c. c == 58) (drop (1 + n) (98 ∷ ((ds ++ 58 ∷ []) ++ more)))) size ∙ ap (λ n. heads (λ c. c == 58) (drop n (98 ∷ ((ds ++ 58 ∷ []) ++ more)))) one ∙ ap (λ l. heads (λ c. c == 58) (drop (length ds) l)) tail ∙ ap (heads (λ c. c == 58)) (drop-append_seam ds (58 ∷ more)),
-    omega (arith, size, length-append ds (58 ∷ [])))
+    let one : 1 + length ds ≡ suc (length ds) = omega arith in (
+      omega (arith, size, a.some),
+      ap (λ n. heads (λ c. c == 58) (drop (1 + n) (98 ∷ ((ds ++ 58 ∷ []) ++ more)))) size ∙ ap (λ n. heads (λ c. c == 58) (drop n (98 ∷ ((ds ++ 58 ∷ []) ++ more)))) one ∙ ap (λ l. heads (λ c. c == 58) (drop (length ds) l)) tail ∙ ap (heads (λ c. c == 58)) (drop-append_seam ds (58 ∷ more)),
+      omega (arith, size, length-append ds (58 ∷ [])),
+    )
 
 mark_in : (c : ℕ) (more : List ℕ) → is_mark c ≡ true → PossibleIn (c ∷ more) 1
 mark_in c more h = elim (mark_lead c h) [

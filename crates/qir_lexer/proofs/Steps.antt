@@ -1,17 +1,14 @@
 -- The first token of a text, or the rule by which it has none, is found.
-use Rattle.std.proofs.Common.{◌≡◌, ◌⊎◌, inl, inr, ℕ, zero, suc, ◌+◌, ◌<◌, ◌≤◌, Bool, true, false, not, ◌&&◌, ◌||◌, ◌==◌, cond, List, [], ◌∷◌, ◌++◌, length, take, drop, codes, Option, Some, None, pos, neg_ℤ, refl, sym, ap, ◌∙◌, subst, arith, eqb-true, append-nil, append_assoc, length-append}
-use Rattle.std.specs.Prelude.{IsTrue}
+use Rattle.std.proofs.Common.{◌≡◌, inl, inr, ℕ, zero, suc, ◌+◌, ◌<◌, ◌≤◌, Bool, true, false, ◌||◌, ◌==◌, cond, List, [], ◌∷◌, ◌++◌, length, take, drop, Option, Some, None, refl, sym, ap, ◌∙◌, subst, arith, eqb-true, append-nil, append_assoc, length-append}
 use Rattle.std.specs.List.{list_all}
 use Rattle.std.specs.Char.{is_ascii_digit}
 use Rattle.std.proofs.Math.Seq.{take-add, take-append_seam}
 use Rattle.std.proofs.lemmas.List.{take-append-drop, length-take-le, length-drop}
-use Rattle.grammar_parts.proofs.Sets.{both_true}
-use Rattle.qir_module.specs.Tokens.{TokenKind, is_blank, ends_line, begins_word, continues_word, is_mark, Outside, IsWord, AreDigits, IsNumbered, IsNumber, IsQuoted, is_body, Spells, is_misformed, EndsLine, IsGap, IsLongest, NoToken, BeginsNothing, BeginsNoText, BeginsMisformed, BreaksBy}
-use Rattle.qir_module.specs.Tokens as t
-use Rattle.qir_module.specs.Lexer.{Lead, Blank, Semicolon, Letter, Digit, Minus, Percent, At, Hash, Bang, Quote, OtherMark, Nothing, lead_of, Step, Gap, Found, Fails, run, heads, closed, or_else, found, number_behind, number_step, name_behind, name_step, quoted_behind, quoted_at, quoted_step, value_of, plus, minus, numbered, block_behind, block_step, special_step, percent_step, step_by, step_of}
-use Rattle.qir_lexer.proofs.Runs.{run_on, run_off, run_le, run_all, run_exact, run_stops, Stopped, Closes, closed_gives}
-use Rattle.qir_lexer.proofs.Leads.{digit_no_word, LeadIs, lead_is}
-use Rattle.qir_lexer.proofs.Possible.{NumberFits, NameFits, QuotedFits, BlockFits, Possible, possible}
+use Rattle.qir_module.specs.Tokens.{TokenKind, is_blank, begins_word, continues_word, Outside, IsWord, AreDigits, IsNumbered, IsQuoted, Spells, is_misformed, IsGap, IsLongest, NoToken, BreaksBy}
+use Rattle.qir_module.specs.Lexer.{Step, Gap, Found, Fails, run, heads, closed, or_else, found, number_behind, number_step, name_behind, name_step, quoted_behind, quoted_at, quoted_step, value_of}
+use Rattle.qir_lexer.proofs.Runs.{run_on, run_off, run_le, run_all, Closes, closed_gives}
+use Rattle.qir_lexer.proofs.Leads.{digit_no_word}
+use Rattle.qir_lexer.proofs.Possible.{QuotedFits}
 
 -- no token that begins the text is longer
 abbrev pub Longest : List ℕ → ℕ → Type 0
@@ -36,7 +33,7 @@ StepHolds text (Found kind n) = TokenHolds text kind n
 StepHolds text (Fails rule) = BreaksBy text rule
 
 module _ (text : List ℕ) where
-  longest_of : (n : ℕ) → n ≤ length text → Longest text n → IsLongest text (take n text)
+  pub longest_of : (n : ℕ) → n ≤ length text → Longest text n → IsLongest text (take n text)
   longest_of n l h = record { rest = drop n text; split = sym (take-append-drop n text); longest = λ other more kind e s. omega (arith, h other more kind e s, length-take-le n text l) }
 
   pub found_holds : (kind : TokenKind) (n : ℕ) → 0 < n → n ≤ length text → Spells (take n text) kind → Longest text n → StepHolds text (found kind (take n text))
@@ -125,9 +122,9 @@ module _ (text : List ℕ) where
   spells_quoted front k rest e h =
       let c : Closes Outside rest k = closed_gives Outside rest k h in
       let whole : text ≡ (front ++ 34 ∷ take k rest ++ 34 ∷ []) ++ c.rest =
-          e ∙ ap (λ l. front ++ 34 ∷ l) c.split ∙ sym (append_assoc front (34 ∷ take k rest) (34 ∷ c.rest)) ∙ sym (append_assoc (front ++ 34 ∷ take k rest) (34 ∷ []) c.rest) in
+      e ∙ ap (λ l. front ++ 34 ∷ l) c.split ∙ sym (append_assoc front (34 ∷ take k rest) (34 ∷ c.rest)) ∙ sym (append_assoc (front ++ 34 ∷ take k rest) (34 ∷ []) c.rest) in
       let size : length (front ++ 34 ∷ take k rest ++ 34 ∷ []) ≡ length front + k + 2 =
-          omega (arith, length-append (front ++ 34 ∷ take k rest) (34 ∷ []), length-append front (34 ∷ take k rest), length-take-le k rest (omega (arith, c.inside))) in
+      omega (arith, length-append (front ++ 34 ∷ take k rest) (34 ∷ []), length-append front (34 ∷ take k rest), length-take-le k rest (omega (arith, c.inside))) in
       (ap (λ m. take m text) (sym size) ∙ ap (take (length (front ++ 34 ∷ take k rest ++ 34 ∷ []))) whole ∙ take-append_seam (front ++ 34 ∷ take k rest ++ 34 ∷ []) c.rest, c.body)
 
   -- ---- why nothing stands

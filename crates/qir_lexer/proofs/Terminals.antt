@@ -1,21 +1,20 @@
 -- Which kinds the tests of single tokens tell, and tokens of which only the value may be wrong.
-use Rattle.std.proofs.Common.{◌≡◌, inl, inr, ℕ, zero, suc, ◌+◌, ◌^◌, ◌<◌, Bool, true, false, cond, not, ◌&&◌, ◌||◌, ◌==◌, List, [], ◌∷◌, ◌++◌, Option, Some, None, ℤ, pos, negsuc, refl, sym, ap, ◌∙◌, subst, arith, eqb-true}
-use Rattle.std.specs.Prelude.{nat_lt, nat_eq}
+use Rattle.std.proofs.Common.{◌≡◌, inl, inr, ℕ, zero, suc, ◌^◌, ◌<◌, Bool, true, false, cond, ◌&&◌, ◌==◌, List, [], ◌∷◌, Option, Some, None, ℤ, pos, negsuc, refl, ap, arith, eqb-true}
+use Rattle.std.specs.Prelude.{nat_lt}
 use Rattle.std.proofs.lemmas.Bool.{ltb-true}
 use Rattle.qq_base.specs.declared.refusal.Span.{Span}
 use Rattle.qir_module.specs.declared.function.Function.{Function}
-use Rattle.grammar_parts.specs.Part.{Part, nothing, never, one, then}
-use Rattle.grammar_parts.specs.Reading.{Reader, done, ◌>>=◌, take_one, take_never, Outcome, Answers, Takes, syntax, deep}
-use Rattle.grammar_parts.specs.Kinds.{has, disjoint, among, Among, is_some, by}
-use Rattle.grammar_parts.specs.Law.{Fine, Follows, Filled}
+use Rattle.grammar_parts.specs.Part.{one}
+use Rattle.grammar_parts.specs.Reading.{Answers}
+use Rattle.grammar_parts.specs.Kinds.{has, disjoint, is_some}
 use Rattle.grammar_parts.proofs.Fine.{fine_one, fine_wider}
 use Rattle.grammar_parts.proofs.Sets.{Tells, both_true, has_apart, has_cases}
-use Rattle.grammar_parts.proofs.Productions.{Reads, reads_one, filled_one, one_hit}
+use Rattle.grammar_parts.proofs.Productions.{Reads, filled_one, one_hit}
 use Rattle.qir_module.specs.Tokens.{TokenKind, Token}
 use Rattle.qir_module.specs.Tokens as t
 use Rattle.qir_module.specs.Words as w
 use Rattle.qir_module.specs.Words.{Reserved, Quoted, reserved_class, quoted_class, text_class, flag_text_class, group_class, flag_class, number_class, name_class, flag_name_class, class_of, kind, word_of, text_of, same, main_name, flags_name}
-use Rattle.qir_module.specs.Grammar.{number_at, small, small_at, register_at, target_at, block_at, constant_at, group_at, flag_at, bytes_at, reserved_at, text_at, name_at, and_then, arithmetic, logic, condition, numeral_in, passing, named_function, with_place, profile_named, stray_word, begins_item}
+use Rattle.qir_module.specs.Grammar.{number_at, small_at, register_at, target_at, block_at, constant_at, group_at, flag_at, bytes_at, reserved_at, text_at, name_at, and_then, arithmetic, logic, condition, numeral_in, named_function, with_place, profile_named, stray_word}
 use Rattle.qir_module.specs.Reader.{number_kinds, stray_kinds, taken_strictly, take_strictly, function_at, profile_at}
 
 -- ---- the kinds of each sort of token

@@ -1,18 +1,16 @@
 -- What is answered of tokens is right, and nothing else is.
-use Rattle.std.proofs.Common.{◌≡◌, ◌⊎◌, ◌&&◌, inl, inr, ℕ, Bool, true, false, cond, List, [], ◌∷◌, ◌++◌, Option, Some, None, Result, Ok, Err, refl, sym, ap, subst, ◌∙◌, append-nil, append_assoc}
-use Rattle.std.proofs.lemmas.List.{append_cancel_left, append_cancel_right}
-use Rattle.qq_base.specs.declared.refusal.Span.{Span}
+use Rattle.std.proofs.Common.{◌≡◌, ◌&&◌, inl, inr, ℕ, Bool, true, false, cond, List, [], ◌∷◌, ◌++◌, Option, Some, None, Ok, Err, refl, sym, ap, subst, ◌∙◌, append-nil, append_assoc}
+use Rattle.std.proofs.lemmas.List.{append_cancel_right}
 use Rattle.qir_module.specs.Module.{Module}
-use Rattle.grammar_parts.specs.Part.{Part, never}
 use Rattle.grammar_parts.specs.Reading.{Refusal, Outcome, syntax, deep, Stops, Answers, and_then}
 use Rattle.grammar_parts.specs.Kinds.{Among}
-use Rattle.grammar_parts.specs.Law.{Fine, Follows}
+use Rattle.grammar_parts.specs.Law.{Follows}
 use Rattle.grammar_parts.proofs.Fine.{cuts, goes}
 use Rattle.grammar_parts.proofs.Sets.{has_apart}
-use Rattle.qir_module.specs.Tokens.{TokenKind, Token, Breach}
+use Rattle.qir_module.specs.Tokens.{Token, Breach}
 use Rattle.qir_module.specs.Words.{kind}
 use Rattle.qir_module.specs.Grammar.{Signature, is_right, all_right, Heading, heading, module_part}
-use Rattle.qir_module.specs.Spoilt.{rule_of_value, place_at, first_wrong, EndsWrong, OnlyLoose, FailsBy, ByValue, ByMore, ByDeclaration, Otherwise, IsRefused, IsAnswer}
+use Rattle.qir_module.specs.Spoilt.{rule_of_value, first_wrong, EndsWrong, FailsBy, ByValue, ByMore, ByDeclaration, Otherwise, IsRefused, IsAnswer}
 use Rattle.qir_module.specs.Reader.{read_nothing, read_heading, read_ending, read_module, breach_at, ended, behind_heading, answer_behind, answer}
 use Rattle.qir_lexer.proofs.Parts.{heading_kinds, reads_heading, whole_ending, reads_ending, module_follows}
 
@@ -55,6 +53,9 @@ not_wrong ys (z ∷ zs) h d n b s (g, e, f) =
 
 stops_strictly : (xs rest : List Token) → Stops (module_part true) xs rest → Stops (module_part false) xs rest
 stops_strictly xs rest stop x more e b = stop x more e (known.below.begun _ b)
+
+pub one_module : (tokens : List Token) (m n : Module) → (module_part false).derives tokens m → (module_part false).derives tokens n → m ≡ n
+one_module tokens m n d e = known.fine.single tokens m n d e
 
 module _ (text : List ℕ) (tokens : List Token) where
   refused_syntax : (rest : List Token) → Answers (module_part false) (module_part true) tokens (Err (syntax rest)) → ((xs : List Token) → tokens ≡ xs ++ rest → (s : Signature) → EndsWrong xs s → ⊥) → IsRefused text tokens (breach_at text (syntax rest))
@@ -142,9 +143,6 @@ module _ (text : List ℕ) (tokens : List Token) where
   answer_right = answered (read_heading tokens) (reads_heading.follows.takes tt tokens).holds (known.takes tt tokens).holds
 
   -- ---- no other answer is
-
-  pub one_module : (m n : Module) → (module_part false).derives tokens m → (module_part false).derives tokens n → m ≡ n
-  one_module m n d e = known.fine.single tokens m n d e
 
   no_further : (breach : Breach) (f : IsRefused text tokens breach) (x : Token) (more r zs : List Token) → f.rest ≡ x ∷ more → zs ≡ f.front ++ x ∷ r → (module_part false).begins zs → ⊥
   no_further breach f x more r zs e g b = f.longest x more e (known.fine.fronts (f.front ++ x ∷ []) r (subst (λ l. (module_part false).begins l) (g ∙ sym (append_assoc f.front (x ∷ []) r)) b))

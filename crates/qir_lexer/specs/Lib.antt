@@ -1,0 +1,4 @@
+pub mod Gaps
+pub mod Rules
+pub mod Scan
+pub mod Seen
