@@ -1,4 +1,4 @@
--- How large a tree is. Each part of a tree is smaller than the tree, so a size is a measure for a walk over it.
+-- For private contracts alone: how large a tree is. Each part of a tree is smaller than the tree, so a size is a measure for a walk over it.
 use Rattle.std.specs.Prelude.{ℕ, zero, suc, ◌+◌, ◌<◌, List, [], ◌∷◌, length, slice_index_or}
 use Rattle.std.proofs.Common.{arith}
 use Rattle.qasm_ast.specs.declared.expr.ExprId.{ExprId}

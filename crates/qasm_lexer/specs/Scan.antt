@@ -1,4 +1,4 @@
--- Words for the contracts of the scanners: what they skip, and what they find.
+-- For private contracts alone: what the scanners skip, and what they find.
 use Rattle.std.specs.Prelude.{◌≡◌, ℕ, ◌<◌, ◌≤◌, Bool, false, not, ◌&&◌, ◌||◌, ◌⊎◌, List, [], ◌∷◌, ◌++◌, ◌==◌, IsTrue, MatchBool, codes, length, Result, Ok, Err}
 use denote.Ref.{Bor}
 use Rattle.qq_base.specs.declared.rule.Rule.{Rule}

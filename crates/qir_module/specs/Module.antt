@@ -37,9 +37,9 @@ abbrev pub IsNumber : ℕ → Type 0
 IsNumber n = n < 2 ^ 32
 
 -- a word is a whole number of 64 bits with sign
-abbrev pub IsWord : Operand → Type 0
-IsWord (Register r) = IsNumber r
-IsWord (Fixed z) = FitsSigned w64 z
+abbrev pub IsWordOperand : Operand → Type 0
+IsWordOperand (Register r) = IsNumber r
+IsWordOperand (Fixed z) = FitsSigned w64 z
 
 -- a fixed truth value is 0 or 1
 abbrev pub IsTruth : Operand → Type 0
@@ -49,7 +49,7 @@ IsTruth (Fixed z) = (z ≡ pos 0) ⊎ (z ≡ pos 1)
 -- a truth value where the flag says so, else a word
 abbrev pub IsTyped : Bool → Operand → Type 0
 IsTyped true operand = IsTruth operand
-IsTyped false operand = IsWord operand
+IsTyped false operand = IsWordOperand operand
 
 -- the function table has 37 rows
 abbrev pub IsFunction : Function → Type 0
@@ -66,7 +66,7 @@ IsTruthOpcode true Xor = Unit {0}
 IsTruthOpcode true _ = ⊥
 
 abbrev pub IsShapedArg : Arg → Type 0
-IsShapedArg (Number operand) = IsWord operand
+IsShapedArg (Number operand) = IsWordOperand operand
 IsShapedArg (Truth operand) = IsTruth operand
 IsShapedArg (Id n) = IsNumber n
 IsShapedArg (Text k) = IsNumber k
@@ -79,7 +79,7 @@ IsRegister (Some r) = IsNumber r
 abbrev pub IsShapedInstr : Instr → Type 0
 IsShapedInstr (Op r op truth left right) = IsNumber r × IsTruthOpcode truth op × IsTyped truth left × IsTyped truth right
 IsShapedInstr (Zext r from) = IsNumber r × IsTruth from
-IsShapedInstr (Trunc r from) = IsNumber r × IsWord from
+IsShapedInstr (Trunc r from) = IsNumber r × IsWordOperand from
 IsShapedInstr (Select r truth test chosen other) = IsNumber r × IsTruth test × IsTyped truth chosen × IsTyped truth other
 IsShapedInstr (Call register function args) = IsRegister register × IsFunction function × AllByRecursion IsShapedArg args
 

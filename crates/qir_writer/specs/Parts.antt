@@ -1,4 +1,4 @@
--- What the parts of the writer speak of, beside the canonical text itself.
+-- For private contracts alone: what the parts of the writer speak of, beside the canonical text itself.
 use Rattle.std.specs.Prelude.{ℕ, zero, suc, List, [], ◌++◌, codes, map}
 use Rattle.qir_module.specs.Text.{line, comma_joined}
 use Rattle.qir_module.specs.Written.{kind_text, gives_text, group_text}

@@ -11,7 +11,7 @@ use Rattle.std.proofs.lemmas.Fmt.{digits_decimal, length-decimal-le_succ}
 use Rattle.qir_module.specs.declared.instruction.Operand.{Operand}
 use Rattle.qir_module.specs.declared.instruction.Operand.TheVariants.{Register, Fixed}
 use Rattle.qir_module.specs.declared.function.Function.{Function}
-use Rattle.qir_module.specs.Module.{IsNumber, IsWord, IsTruth, IsFunction, IsShapedInstr, IsByte, IsLabel, IsShaped}
+use Rattle.qir_module.specs.Module.{IsNumber, IsWordOperand, IsTruth, IsFunction, IsShapedInstr, IsByte, IsLabel, IsShaped}
 use Rattle.qq_tool.specs.declared.thin.ThinLine.{ThinLine}
 use Rattle.qq_tool.specs.declared.thin.ThinLine.TheVariants.{Hadamard, Not, ControlledNot, Measure}
 use Rattle.qq_tool.specs.Thin.{Thin, IsThin, IsWithin, bit_text}
@@ -97,7 +97,7 @@ shaped_body p thin =
     let truths : AllByRecursion IsTruth (last_operands p) = truth_operands 0 p.lines (replicate p.bits (Fixed (pos 0))) (omega (arith, thin.few_lines)) (first_operands p.bits) in
     let count : length (last_operands p) ≤ 4096 = omega (arith, length-last_operands p, thin.few_bits) in
     let fits : length (last_operands p) < 2 ^ 63 = omega (arith, count) in
-    let size : IsWord (Fixed (pos (length (last_operands p)))) = fits_signed_from_abs w64 (pos (length (last_operands p))) fits in
+    let size : IsWordOperand (Fixed (pos (length (last_operands p)))) = fits_signed_from_abs w64 (pos (length (last_operands p))) fits in
     let records : AllByRecursion IsShapedInstr (record_instrs (last_operands p)) =
     ((tt, omega arith, (size, (omega arith, tt))), shaped_bit_records 1 (last_operands p) (omega (arith, count)) truths) in
     let lines : AllByRecursion IsShapedInstr (lines_instrs 0 p.lines) =
