@@ -4,13 +4,10 @@ use Rattle.qq_base.specs.declared.run.GateId.{GateId}
 use Rattle.gate_table.specs.declared.table.Row.{Row}
 use Rattle.gate_table.specs.declared.table.InvRow.{InvRow}
 use Rattle.gate_table.specs.declared.table.CtlRow.{CtlRow}
-use Rattle.gate_table.specs.Table.{TargetGate, gates, row_of, inverse_of, control_of, source_names, gate_named}
+use Rattle.gate_table.specs.Table.{row_of, inverse_of, control_of, source_names, gate_named}
 
 abbrev pub Differ : List (List ℕ) → Type 0
 Differ names = AllPairs (λ a b. a ≢ b) names
-
-abbrev pub row_names : List (List ℕ)
-row_names = map (λ (g : TargetGate). g.name) gates
 
 abbrev pub all_source_names : List (List ℕ)
 all_source_names = map (λ (entry : List ℕ × ℕ). entry.0) source_names

@@ -164,6 +164,9 @@ inverses = map (λ (g : ℕ × TargetGate). inverse_in g.0 (g.1).inverse) (enume
 abbrev pub controls : List (Option CtlRow)
 controls = map (λ (g : TargetGate). control_row g.control) gates
 
+abbrev pub names : List (List ℕ)
+names = map (λ (g : TargetGate). g.name) gates
+
 -- ---- its entries, None where there is no such gate
 
 abbrev pub row_of : ℕ → Option Row

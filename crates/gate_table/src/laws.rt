@@ -1,11 +1,12 @@
 //! Laws of the target table. No program calls these functions; each has an empty body, and its contract is the
 //! law.
 
-ghost use Rattle.gate_table.specs.Laws.{Differ, row_names, all_source_names, InversesReturn, InversesTakeTheSame, InversesAreGates, ControlsAddAQubit, NamesAreGates};
+ghost use Rattle.gate_table.specs.Table.{names};
+ghost use Rattle.gate_table.specs.Laws.{Differ, all_source_names, InversesReturn, InversesTakeTheSame, InversesAreGates, ControlsAddAQubit, NamesAreGates};
 
 /// Names differ: no two rows have one name, and no source name stands for two gates.
 pub fn names_differ()
-    ensures rows { Differ row_names }
+    ensures rows { Differ names }
     ensures sources { Differ all_source_names }
 {}
 

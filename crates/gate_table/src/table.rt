@@ -1,7 +1,7 @@
 //! The target table and its columns.
 
 ghost use Rattle.std.specs.Prelude.{◌≡◌, ◌<◌, ◌≤◌, slice_get, Some};
-ghost use Rattle.gate_table.specs.Table.{rows, inverses, controls, gate_named};
+ghost use Rattle.gate_table.specs.Table.{rows, inverses, controls, names, gate_named};
 
 use qq_base::GateId;
 
@@ -38,55 +38,55 @@ pub struct Table<const N: usize> {
     pub ghost small: { N ≤ 256 },
 }
 
-/// The gates in the order of their rows: arguments, qubits, the inverse, and the gate under a control.
+/// The gates by their rows: the name, arguments, qubits, the inverse, and the gate under a control.
 macro_rules! gates {
     ($make:ident) => {
         $make! {
-            x: 0 1 (by 0) (by 15);
-            y: 0 1 (by 1) (by 16);
-            z: 0 1 (by 2) (by 17);
-            h: 0 1 (by 3) (by 18);
-            s: 0 1 (by 5) (by 19 at 0x4000_0000);
-            sdg: 0 1 (by 4) (by 19 at -0x4000_0000);
-            t: 0 1 (by 7) (by 19 at 0x2000_0000);
-            tdg: 0 1 (by 6) (by 19 at -0x2000_0000);
-            sx: 0 1 (by 9) (none);
-            sxdg: 0 1 (by 8) (none);
-            id: 0 1 (by 10) (none);
-            p: 1 1 (by 11) (by 19);
-            rx: 1 1 (by 12) (by 20);
-            ry: 1 1 (by 13) (by 21);
-            rz: 1 1 (by 14) (by 22);
-            cx: 0 2 (by 15) (by 24);
-            cy: 0 2 (by 16) (none);
-            cz: 0 2 (by 17) (none);
-            ch: 0 2 (by 18) (none);
-            cp: 1 2 (by 19) (none);
-            crx: 1 2 (by 20) (none);
-            cry: 1 2 (by 21) (none);
-            crz: 1 2 (by 22) (none);
-            swap: 0 2 (by 23) (by 25);
-            ccx: 0 3 (by 24) (none);
-            cswap: 0 3 (by 25) (none);
-            U: 3 1 (exchanged 26) (none);
-            u3: 3 1 (exchanged 27) (none);
-            u2: 2 1 (none) (none);
-            cu: 4 2 (exchanged 29) (none);
-            gphase: 1 0 (by 30) (by 11);
+            0 x: 0 1 (by 0) (by 15);
+            1 y: 0 1 (by 1) (by 16);
+            2 z: 0 1 (by 2) (by 17);
+            3 h: 0 1 (by 3) (by 18);
+            4 s: 0 1 (by 5) (by 19 at 0x4000_0000);
+            5 sdg: 0 1 (by 4) (by 19 at -0x4000_0000);
+            6 t: 0 1 (by 7) (by 19 at 0x2000_0000);
+            7 tdg: 0 1 (by 6) (by 19 at -0x2000_0000);
+            8 sx: 0 1 (by 9) (none);
+            9 sxdg: 0 1 (by 8) (none);
+            10 id: 0 1 (by 10) (none);
+            11 p: 1 1 (by 11) (by 19);
+            12 rx: 1 1 (by 12) (by 20);
+            13 ry: 1 1 (by 13) (by 21);
+            14 rz: 1 1 (by 14) (by 22);
+            15 cx: 0 2 (by 15) (by 24);
+            16 cy: 0 2 (by 16) (none);
+            17 cz: 0 2 (by 17) (none);
+            18 ch: 0 2 (by 18) (none);
+            19 cp: 1 2 (by 19) (none);
+            20 crx: 1 2 (by 20) (none);
+            21 cry: 1 2 (by 21) (none);
+            22 crz: 1 2 (by 22) (none);
+            23 swap: 0 2 (by 23) (by 25);
+            24 ccx: 0 3 (by 24) (none);
+            25 cswap: 0 3 (by 25) (none);
+            26 U: 3 1 (exchanged 26) (none);
+            27 u3: 3 1 (exchanged 27) (none);
+            28 u2: 2 1 (none) (none);
+            29 cu: 4 2 (exchanged 29) (none);
+            30 gphase: 1 0 (by 30) (by 11);
         }
     };
 }
 
 /// Writes what each gate takes.
 macro_rules! rows {
-    ($($name:ident: $params:literal $qubits:literal $inverse:tt $control:tt;)*) => {
+    ($($gate:literal $name:ident: $params:literal $qubits:literal $inverse:tt $control:tt;)*) => {
         [$(Row { params: $params, qubits: $qubits }),*]
     };
 }
 
 /// Writes the inverse of each gate.
 macro_rules! inverses {
-    ($($name:ident: $params:literal $qubits:literal $inverse:tt $control:tt;)*) => {
+    ($($gate:literal $name:ident: $params:literal $qubits:literal $inverse:tt $control:tt;)*) => {
         [$(inverse!($inverse)),*]
     };
 }
@@ -99,7 +99,7 @@ macro_rules! inverse {
 
 /// Writes each gate under a control.
 macro_rules! controls {
-    ($($name:ident: $params:literal $qubits:literal $inverse:tt $control:tt;)*) => {
+    ($($gate:literal $name:ident: $params:literal $qubits:literal $inverse:tt $control:tt;)*) => {
         [$(control!($control)),*]
     };
 }
@@ -156,6 +156,22 @@ impl<const N: usize> Table<N> {
 }
 
 impl Table<31> {
+    /// The name of a gate, as runs show it.
+    pub fn name(&self, gate: GateId) -> &'static str
+        requires { gate.0 < 31 }
+        ensures { slice_get names gate.0 ≡ Some result.now }
+    {
+        macro_rules! name_of {
+            ($($gate:literal $name:ident: $params:literal $qubits:literal $inverse:tt $control:tt;)*) => {
+                match gate.0 {
+                    $($gate => stringify!($name),)*
+                    _ => unreachable!(),
+                }
+            };
+        }
+        gates!(name_of)
+    }
+
     /// The gate that a source text calls by a name; None exactly where the name is no source name.
     pub fn by_name(&self, name: &[u8]) -> Option<GateId>
         ensures { result ≡ gate_named name.now }

@@ -19,5 +19,6 @@ fn finds_u_and_a_controlled_s(rt: HostRuntime) -> Result<(), Fail> {
         (GateId(19), Some(1073741824))
     );
     assert_eq!(rt; table.by_name(b"sxdg"), None);
+    assert_eq!(rt; table.name(GateId(9)), "sxdg");
     Ok(())
 }
