@@ -1,6 +1,7 @@
 -- Integers: products that are 0, cancelling, order, and what a call has that is given the result of an operator.
-use Rattle.std.proofs.Common.{◌≡◌, ℕ, suc, ◌*◌, ◌^◌, ◌<◌, ◌≤◌, ◌↔◌, ℤ, pos, negsuc, neg_ℤ, int_rem, ◌%◌, ◌+ℤ◌, ◌-ℤ◌, ◌*ℤ◌, ◌≤ℤ◌, ◌<ℤ◌, unsigned_abs, SFits, to_z, of_z, refl, sym, ◌∙◌, ap, arith, int_cmp, Ordering, Less, Equal, Greater, mul-pos, eq-zero-or-pos, ⊎_elim}
+use Rattle.std.proofs.Common.{◌≡◌, ℕ, zero, suc, ◌*◌, ◌^◌, ◌<◌, ◌≤◌, ◌↔◌, ℤ, pos, negsuc, neg_ℤ, int_rem, ◌%◌, ◌+ℤ◌, ◌-ℤ◌, ◌*ℤ◌, ◌≤ℤ◌, ◌<ℤ◌, unsigned_abs, SFits, to_z, of_z, refl, sym, ◌∙◌, ap, arith, int_cmp, Ordering, Less, Equal, Greater, mul-pos, eq-zero-or-pos, ⊎_elim, mul_assoc}
 use Rattle.std.proofs.Math.Nat.{eq_of_mul-eq-mul_right, mul-mod_left}
+use Rattle.std.proofs.Math.IntN.{*ℤ_comm, zero-*ℤ}
 use Rattle.std.proofs.lemmas.Cmp.{int_ranked}
 use Rattle.std.proofs.lemmas.Int.{to_z-of_z, fits_signed_mul, ints, unsigned_abs-mul}
 use Rattle.std.specs.Int.{w128}
@@ -25,6 +26,40 @@ same_from_product (negsuc a) (negsuc b) (pos d) positive e =
     omega (arith, ints)
 same_from_product (pos a) (negsuc b) (pos d) positive e = absurd (omega (arith, ints))
 same_from_product (negsuc a) (pos b) (pos d) positive e = absurd (omega (arith, ints))
+
+-- ---- products of three
+
+neg_times : (x y : ℤ) → neg_ℤ x *ℤ y ≡ neg_ℤ (x *ℤ y)
+neg_times (pos zero) y = rw zero-*ℤ refl
+neg_times (pos (suc a)) (pos b) = refl
+neg_times (pos (suc a)) (negsuc b) = omega (arith, ints)
+neg_times (negsuc a) (pos b) = omega (arith, ints)
+neg_times (negsuc a) (negsuc b) = refl
+
+times_neg : (x y : ℤ) → x *ℤ neg_ℤ y ≡ neg_ℤ (x *ℤ y)
+times_neg x y = *ℤ_comm x (neg_ℤ y) ∙ neg_times y x ∙ ap neg_ℤ (*ℤ_comm y x)
+
+mul_int_assoc : (x y z : ℤ) → (x *ℤ y) *ℤ z ≡ x *ℤ (y *ℤ z)
+mul_int_assoc = all
+  where
+    naturals : (a b : ℕ) (z : ℤ) → (pos a *ℤ pos b) *ℤ z ≡ pos a *ℤ (pos b *ℤ z)
+    naturals a b (pos c) = ap pos (mul_assoc a b c)
+    naturals a b (negsuc c) = times_neg (pos (a * b)) (pos (suc c)) ∙ ap neg_ℤ (ap pos (mul_assoc a b (suc c))) ∙ sym (times_neg (pos a) (pos (b * suc c)))
+
+    natural : (a : ℕ) (y z : ℤ) → (pos a *ℤ y) *ℤ z ≡ pos a *ℤ (y *ℤ z)
+    natural a (pos b) z = naturals a b z
+    natural a (negsuc b) z =
+        ap (λ (w : ℤ). w *ℤ z) (times_neg (pos a) (pos (suc b))) ∙ neg_times (pos a *ℤ pos (suc b)) z ∙ ap neg_ℤ (naturals a (suc b) z)
+        ∙ sym (times_neg (pos a) (pos (suc b) *ℤ z)) ∙ sym (ap (λ (w : ℤ). pos a *ℤ w) (neg_times (pos (suc b)) z))
+
+    all : (x y z : ℤ) → (x *ℤ y) *ℤ z ≡ x *ℤ (y *ℤ z)
+    all (pos a) y z = natural a y z
+    all (negsuc a) y z =
+        ap (λ (w : ℤ). w *ℤ z) (neg_times (pos (suc a)) y) ∙ neg_times (pos (suc a) *ℤ y) z ∙ ap neg_ℤ (natural (suc a) y z)
+        ∙ sym (neg_times (pos (suc a)) (y *ℤ z))
+
+pub mul_int_right_comm : (x y z : ℤ) → (x *ℤ y) *ℤ z ≡ (x *ℤ z) *ℤ y
+mul_int_right_comm x y z = mul_int_assoc x y z ∙ ap (λ (w : ℤ). x *ℤ w) (*ℤ_comm y z) ∙ sym (mul_int_assoc x z y)
 
 -- a multiple of d leaves no remainder
 pub rem_from_multiple : (n d z : ℤ) → n ≡ z *ℤ d → int_rem n d ≡ pos 0

@@ -16,7 +16,7 @@ signed negative n = if negative then neg_ℤ (pos n) else pos n
 abbrev pub differ : ℤ → ℤ → Bool
 differ num den = not (beq (int_lt num (pos 0)) (int_lt den (pos 0)))
 
-unsigned_abs-signed : (negative : Bool) (n : ℕ) → unsigned_abs (signed negative n) ≡ n
+pub unsigned_abs-signed : (negative : Bool) (n : ℕ) → unsigned_abs (signed negative n) ≡ n
 unsigned_abs-signed true zero = refl
 unsigned_abs-signed true (suc n) = refl
 unsigned_abs-signed false n = refl

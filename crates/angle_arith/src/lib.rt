@@ -19,15 +19,19 @@
 //!   they are the same (`same`); fractions in lowest terms are equal exactly where they are the same
 //!   (`one_form`, `unique`);
 //! - of `to_units` and `to_angle`, that an Ok is the whole number of parts (`units`, `count`), and each
-//!   refusal exactly by its cause (`not_dyadic`, `turn_range`, `refusals`).
+//!   refusal exactly by its cause (`not_dyadic`, `turn_range`, `refusals`);
+//! - the law `fractions_have_lowest_terms`: the form in lowest terms as a value that definitions compute with, `in_lowest_terms` of
+//!   `specs/Lowest.antt`, is the same fraction and the only one in lowest terms; and that negatives keep lowest terms.
 #![tactic(auto)]
 
 mod arithmetic;
 mod fraction;
+mod laws;
 mod parts;
 #[cfg(test)]
 mod tests;
 
 pub use arithmetic::{angle_add, angle_cmp, angle_div, angle_eq, angle_mul, angle_neg, angle_sub};
 pub use fraction::{AngleRefusal, PiFraction};
+pub use laws::{fractions_have_lowest_terms, negatives_keep_lowest_terms};
 pub use parts::{to_angle, to_units};
