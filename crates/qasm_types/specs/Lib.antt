@@ -5,4 +5,5 @@ pub mod Operators
 pub mod OpPlan
 pub mod Values
 pub mod ValueRows
+pub mod Laws
 pub mod Plans

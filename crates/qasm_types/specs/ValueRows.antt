@@ -37,5 +37,16 @@ pub record WorkedOperators : Type 0 where
   -- `~` of a bit and of bits
   pub complement_of_bits : apply_unary unary.Complement (t.Bits 2) (Register (false ∷ true ∷ [])) ≡ Some (Register (true ∷ false ∷ []))
   pub complement_of_a_bit : apply_unary unary.Complement t.Bit (Truth true) ≡ Some (Truth false)
+  -- 1/6 + 1/3 is 1/2, 1/2 - 1/2 is 0/1, and 4 times 3/8 is 3/2: parts of pi stand in lowest terms
+  pub parts_added : apply op.Add t.Pi (PartOfPi (fraction_of (pos 1) (pos 6))) (PartOfPi (fraction_of (pos 1) (pos 3))) ≡ Some (PartOfPi (fraction_of (pos 1) (pos 2)))
+  pub parts_subtracted : apply op.Subtract t.Pi (PartOfPi (fraction_of (pos 1) (pos 2))) (PartOfPi (fraction_of (pos 1) (pos 2))) ≡ Some (PartOfPi (fraction_of (pos 0) (pos 1)))
+  pub part_multiplied : apply op.Multiply t.Pi (Number (pos 4)) (PartOfPi (fraction_of (pos 3) (pos 8))) ≡ Some (PartOfPi (fraction_of (pos 3) (pos 2)))
+  -- 2/3 over -4 is -1/6, whose denominator is above 0, and so it is below 1/4
+  pub part_over_a_negative : apply op.Divide t.Pi (PartOfPi (fraction_of (pos 2) (pos 3))) (Number (negsuc 3)) ≡ Some (PartOfPi (fraction_of (negsuc 0) (pos 6)))
+  pub negative_part_compared : apply op.Less t.Bool (PartOfPi (fraction_of (negsuc 0) (pos 6))) (PartOfPi (fraction_of (pos 1) (pos 4))) ≡ Some (Truth true)
+  -- 2^62 is in range, and twice that is not; nor is 1/2^62 over 3
+  pub part_too_great : apply op.Multiply t.Pi (PartOfPi (fraction_of (pos 4611686018427387904) (pos 1))) (Number (pos 2)) ≡ None
+  pub part_too_fine : apply op.Divide t.Pi (PartOfPi (fraction_of (pos 1) (pos 4611686018427387904))) (Number (pos 3)) ≡ None
+  pub part_over_zero : apply op.Divide t.Pi (PartOfPi (fraction_of (pos 1) (pos 2))) (Number (pos 0)) ≡ None
   -- 1/2 of pi is more than 1/3 of it
   pub parts_compared : apply op.Greater t.Bool (PartOfPi (fraction_of (pos 1) (pos 2))) (PartOfPi (fraction_of (pos 1) (pos 3))) ≡ Some (Truth true)

@@ -1,5 +1,5 @@
 -- The values of the types, and what casts and operators give: the rows of the two tables on whole numbers without bound, with one reduction at the end. It is the arithmetic of the OpenQASM 3.0 specification, "Classical instructions", with wrapping at each width.
-use Rattle.std.specs.Prelude.{◌≡◌, ℕ, zero, suc, ◌+◌, ◌-◌, ◌*◌, ◌/◌, ◌%◌, ◌^◌, ◌<◌, ◌≤◌, Bool, true, false, not, nat_eq, nat_le, ◌&&◌, ◌||◌, if◌then◌else◌, List, [], ◌∷◌, length, ℤ, pos, neg_ℤ, ◌+ℤ◌, ◌-ℤ◌, ◌*ℤ◌, ◌≤ℤ◌, ◌<ℤ◌, int_div, int_rem, int_le, int_lt, unsigned_abs, Option, Some, None}
+use Rattle.std.specs.Prelude.{◌≡◌, ℕ, zero, suc, ◌+◌, ◌-◌, ◌*◌, ◌/◌, ◌^◌, ◌<◌, Bool, true, false, not, nat_le, ◌&&◌, ◌||◌, if◌then◌else◌, List, [], ◌∷◌, length, ℤ, pos, neg_ℤ, ◌+ℤ◌, ◌-ℤ◌, ◌*ℤ◌, ◌≤ℤ◌, int_div, int_rem, int_le, int_lt, unsigned_abs, Option, Some, None}
 use Rattle.std.specs.Int.{int_div_euclid, int_rem_euclid}
 use Rattle.std.specs.Option.{option_map, option_and_then}
 use Rattle.std.specs.Ordering.{int_eq}
@@ -9,10 +9,10 @@ use Rattle.qasm_ast.specs.declared.expr.UnaryOp.{UnaryOp}
 use Rattle.qasm_ast.specs.declared.expr.UnaryOp.TheVariants as unary
 use Rattle.word_arith.specs.Whole.{int_and, int_or, int_xor}
 use Rattle.word_arith.specs.WordTy.{least_value, greatest_value, value_modulo}
-use Rattle.angle_arith.specs.Fraction.{Fraction, IsSameFraction, negative_of, sum_of, difference_of, product_of, quotient_of, parts_of}
+use Rattle.angle_arith.specs.Fraction.{Fraction, IsLowestTerms, negative_of, sum_of, difference_of, product_of, quotient_of, parts_of}
+use Rattle.angle_arith.specs.Lowest.{in_lowest_terms, is_small}
 use Rattle.qasm_types.specs.declared.ty.Ty.{Ty}
 use Rattle.qasm_types.specs.declared.ty.Ty.TheVariants as t
-use Rattle.qasm_types.specs.Types.{IsConstant}
 use Rattle.qasm_types.specs.Types.{IsConstant}
 
 -- a value
@@ -27,7 +27,7 @@ pub data Value : Type 0 where
   Count : (count : ℕ) → Value
   -- of a turn, in units of 2 ^ -32 turn
   Units : (units : ℤ) → Value
-  -- a constant, as a part of pi
+  -- a constant, as a part of pi in lowest terms
   PartOfPi : (part : Fraction) → Value
 
 -- the values of a type
@@ -40,13 +40,8 @@ IsValueOf (t.Uint n) (Number z) = (least_value false n ≤ℤ z) × (z ≤ℤ gr
 IsValueOf (t.Angle n) (Count c) = c < 2 ^ n
 IsValueOf t.Turn (Units z) = (least_value true 64 ≤ℤ z) × (z ≤ℤ greatest_value true 64)
 IsValueOf t.Whole (Number z) = IsConstant z
-IsValueOf t.Pi (PartOfPi p) = pos 1 ≤ℤ p.den
+IsValueOf t.Pi (PartOfPi p) = IsLowestTerms p
 IsValueOf _ _ = ⊥
-
--- two values are the same, fractions where their cross products are equal
-abbrev pub IsSameValue : Value → Value → Type 0
-IsSameValue (PartOfPi p) (PartOfPi q) = IsSameFraction p q
-IsSameValue x y = x ≡ y
 
 -- ---- values and whole numbers
 
@@ -163,17 +158,21 @@ test_on_numbers op.And x y = Some (int_eq x (pos 1) && int_eq y (pos 1))
 test_on_numbers op.Or x y = Some (int_eq x (pos 1) || int_eq y (pos 1))
 test_on_numbers _ x y = None
 
+-- A part of pi in lowest terms, with a denominator above 0. There is none outside the range of constants.
+abbrev pub part_in_range : Fraction → Option Value
+part_in_range p = if is_small (in_lowest_terms p) then Some (PartOfPi (in_lowest_terms p)) else None
+
 -- what an operator gives on parts of pi, or on one and a whole constant
 abbrev pub result_on_parts : BinaryOp → Value → Value → Option Value
-result_on_parts op.Add (PartOfPi p) (PartOfPi q) = Some (PartOfPi (sum_of p q))
-result_on_parts op.Subtract (PartOfPi p) (PartOfPi q) = Some (PartOfPi (difference_of p q))
-result_on_parts op.Multiply (PartOfPi p) (Number z) = Some (PartOfPi (product_of p z))
-result_on_parts op.Multiply (Number z) (PartOfPi p) = Some (PartOfPi (product_of p z))
-result_on_parts op.Divide (PartOfPi p) (Number z) = option_map (λ k. PartOfPi (quotient_of p k)) (where_divisor z z)
+result_on_parts op.Add (PartOfPi p) (PartOfPi q) = part_in_range (sum_of p q)
+result_on_parts op.Subtract (PartOfPi p) (PartOfPi q) = part_in_range (difference_of p q)
+result_on_parts op.Multiply (PartOfPi p) (Number z) = part_in_range (product_of p z)
+result_on_parts op.Multiply (Number z) (PartOfPi p) = part_in_range (product_of p z)
+result_on_parts op.Divide (PartOfPi p) (Number z) = option_and_then (λ k. part_in_range (quotient_of p k)) (where_divisor z z)
 result_on_parts o (PartOfPi p) (PartOfPi q) = option_map Truth (test_on_numbers o (p.num *ℤ q.den) (q.num *ℤ p.den))
 result_on_parts _ x y = None
 
--- The value of an operator with a result of this type, on values at the types at which it takes them. There is none where a divisor is 0, an amount or an exponent is below 0, or a whole constant is out of range.
+-- The value of an operator with a result of this type, on values at the types at which it takes them. There is none where a divisor is 0, an amount or an exponent is below 0, or a constant is out of range.
 abbrev pub apply : BinaryOp → Ty → Value → Value → Option Value
 apply o r (PartOfPi p) y = result_on_parts o (PartOfPi p) y
 apply o r x (PartOfPi q) = result_on_parts o x (PartOfPi q)

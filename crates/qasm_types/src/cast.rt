@@ -9,7 +9,8 @@ use crate::ty::Ty;
 /// Whether there is a cast from the operand to the type. Two casts that there are have no value for some operands: that of a
 /// whole constant other than 0 to `angle[n]`, and that of a fraction of pi whose count there is not whole.
 pub fn cast_of(from: Operand, to: Ty) -> bool
-    ensures { IsTrue result ↔ HasCast from.ty from.whole to }
+    ensures row { IsTrue result ↔ HasCast from.ty from.whole to }
+    ensures test { result ≡ casts from.ty from.whole to }
 {
     has_cast(from, to)
 }

@@ -23,6 +23,7 @@ pub fn operator_type(op: BinaryOp, left: Operand, right: Operand) -> Option<OpPl
     ensures row { (l r t : Ty) → HasRow (group_of op) left.ty left.whole right.ty right.whole l r t
         ↔ IsSomeAnd result (Takes l r t) }
     ensures none { IsNone result ↔ ((l r t : Ty) → ¬ HasRow (group_of op) left.ty left.whole right.ty right.whole l r t) }
+    ensures plan { option_map types_of result ≡ operator_plan (group_of op) left.ty left.whole right.ty right.whole }
 {
     plan_of(op, left, right)
 }
@@ -52,6 +53,7 @@ fn plan_of(op: BinaryOp, left: Operand, right: Operand) -> Option<OpPlan>
 pub fn unary_type(op: UnaryOp, arg: Operand) -> Option<Ty>
     ensures row { (t : Ty) → HasUnaryRow op arg.ty arg.whole t ↔ (result ≡ Some t) }
     ensures none { IsNone result ↔ ((t : Ty) → ¬ HasUnaryRow op arg.ty arg.whole t) }
+    ensures plan { result ≡ unary_types op arg.ty arg.whole }
     ensures is_type { IfSome result IsType }
 {
     unary_result(op, arg)

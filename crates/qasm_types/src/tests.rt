@@ -1,10 +1,16 @@
-// The rows of the two tables, a row on each line, worked by hand from the tables of the language; and all pairs of types against a
-// second reading of the table of operators.
+// Rows of the two tables worked by hand, a row on each line; and all operators at all pairs of types, and all casts, against a
+// plain reading of the tables as texts.
+mod plain;
+mod tables;
+
 ghost use Rattle.qasm_types.specs.Types.{IsType};
 
 use super::*;
+use plain::{has_cast, result_of, rows_of, types_of};
 use qasm_ast::{BinaryOp, UnaryOp};
+use std::alloc::{AllocError, Global};
 use std::test::Fail;
+use tables::{OPERANDS, SYMBOLS, UNARY_SYMBOLS};
 
 // an operand, a type, and whether there is a cast
 const CASTS: &str = "bool bit yes
@@ -158,7 +164,11 @@ fn operator(symbol: &str) -> Option<BinaryOp> {
         "|" => BinaryOp::BitOr,
         "^" => BinaryOp::BitXor,
         "==" => BinaryOp::Equal,
+        "!=" => BinaryOp::NotEqual,
         "<" => BinaryOp::Less,
+        "<=" => BinaryOp::LessEqual,
+        ">" => BinaryOp::Greater,
+        ">=" => BinaryOp::GreaterEqual,
         "&&" => BinaryOp::And,
         "||" => BinaryOp::Or,
         "**" => BinaryOp::Power,
@@ -182,7 +192,7 @@ fn types(plan: Option<OpPlan>) -> Option<Types> {
     Some((plan.left, plan.right, plan.result))
 }
 
-fn ty(name: Option<&str>) -> Option<Ty> {
+fn type_of(name: Option<&str>) -> Option<Ty> {
     Some(operand(name?)?.ty)
 }
 
@@ -191,7 +201,7 @@ fn casts(rt: HostRuntime) -> Result<(), Fail> {
     for line in CASTS.lines() {
         let mut words = line.split(' ');
         let from = operand(words.next().unwrap_or("")).ok_or("from")?;
-        let to = ty(words.next()).ok_or("to")?;
+        let to = type_of(words.next()).ok_or("to")?;
         assert_eq!(rt;
             cast_of(from, to),
             words.next().unwrap_or("") == "yes",
@@ -208,9 +218,9 @@ fn takes_operands(rt: HostRuntime) -> Result<(), Fail> {
         let op = operator(words.next().unwrap_or("")).ok_or("operator")?;
         let left = operand(words.next().unwrap_or("")).ok_or("left")?;
         let right = operand(words.next().unwrap_or("")).ok_or("right")?;
-        let first = ty(words.next());
-        let second = ty(words.next());
-        let third = ty(words.next());
+        let first = type_of(words.next());
+        let second = type_of(words.next());
+        let third = type_of(words.next());
         let got = types(operator_type(op, left, right));
         match (first, second, third) {
             (Some(l), Some(r), Some(t)) => assert_eq!(rt; got, Some((l, r, t)), "{line}"),
@@ -226,9 +236,60 @@ fn takes_an_operand(rt: HostRuntime) -> Result<(), Fail> {
         let mut words = line.split(' ');
         let op = unary(words.next().unwrap_or("")).ok_or("operator")?;
         let arg = operand(words.next().unwrap_or("")).ok_or("operand")?;
-        assert_eq!(rt; unary_type(op, arg), ty(words.next()), "{line}");
+        assert_eq!(rt; unary_type(op, arg), type_of(words.next()), "{line}");
     }
     assert_eq!(rt; cells(Ty::Bits(0)), 0);
     assert_eq!(rt; cells(Ty::Uint(64)), 1);
+    Ok(())
+}
+
+/// The operands that are compared, each with each.
+fn operands(alloc: Global) -> Result<Vec<Operand>, AllocError> {
+    let mut all = Vec::new(alloc);
+    for name in OPERANDS.split_whitespace() {
+        if let Some(one) = operand(name) {
+            all.push(one)?;
+        }
+    }
+    Ok(all)
+}
+
+#[test]
+fn operators_have_their_rows(rt: HostRuntime) -> Result<(), Fail> {
+    let truth = of(Ty::Bool);
+    let all = operands(rt.alloc())?;
+    for symbol in SYMBOLS.split(' ') {
+        let op = operator(symbol).ok_or("operator")?;
+        let rows = rows_of(rt.alloc(), symbol)?;
+        for left in &all {
+            for right in &all {
+                let got = types(operator_type(op, *left, *right));
+                let want = types_of(&rows, *left, *right, truth);
+                assert_eq!(rt; got, want, "{left:?} {symbol} {right:?}");
+            }
+        }
+    }
+    Ok(())
+}
+
+#[test]
+fn casts_and_unary_operators_have_their_rows(rt: HostRuntime) -> Result<(), Fail> {
+    let truth = of(Ty::Bool);
+    let all = operands(rt.alloc())?;
+    assert_eq!(rt; all.len(), 55);
+    for from in &all {
+        for to in &all {
+            assert_eq!(rt;
+                cast_of(*from, to.ty),
+                has_cast(*from, *to),
+                "{from:?} {to:?}"
+            );
+        }
+        for symbol in UNARY_SYMBOLS.split(' ') {
+            let op = unary(symbol).ok_or("operator")?;
+            let want = result_of(symbol, *from, truth);
+            assert_eq!(rt; unary_type(op, *from), want, "{symbol} {from:?}");
+        }
+    }
     Ok(())
 }
