@@ -7,10 +7,10 @@ use Rattle.alias_resolve.specs.Numbers.{has_passed, counted, numbers_from, place
 use Rattle.alias_resolve.specs.Places.{places_in}
 use Rattle.alias_resolve.proofs.Answers.{place_of-Some, places_in-Ok}
 
-int_lt-true : (a b : ℤ) → int_lt a b ≡ true → a <ℤ b
+pub int_lt-true : (a b : ℤ) → int_lt a b ≡ true → a <ℤ b
 int_lt-true a b e = by_lt_z a b (λ lt. lt) (λ le. absurd (let no : int_lt a b ≡ false = grind (arith, ints) in cc))
 
-int_lt-false : (a b : ℤ) → int_lt a b ≡ false → b ≤ℤ a
+pub int_lt-false : (a b : ℤ) → int_lt a b ≡ false → b ≤ℤ a
 int_lt-false a b e = by_lt_z a b (λ lt. absurd (let yes : int_lt a b ≡ true = grind (arith, ints) in cc)) (λ le. le)
 
 -- a number that is not passed, with the step that leads on
@@ -26,7 +26,7 @@ Goes-from_test step stop number e = by (int_lt step (pos 0)) refl e
     by false s e = let up : pos 0 ≤ℤ step = int_lt-false step (pos 0) s in let there : number ≤ℤ stop = int_lt-false stop number e in record { down = λ neg. absurd (omega (arith, ints)); up = λ _. there }
 
 -- the distance to the stop falls
-distance-falls : (step stop number : ℤ) → step ≢ pos 0 → Goes step stop number → Goes step stop (number +ℤ step) → unsigned_abs (stop -ℤ (number +ℤ step)) < unsigned_abs (stop -ℤ number)
+pub distance-falls : (step stop number : ℤ) → step ≢ pos 0 → Goes step stop number → Goes step stop (number +ℤ step) → unsigned_abs (stop -ℤ (number +ℤ step)) < unsigned_abs (stop -ℤ number)
 distance-falls step stop number ne here next =
     by_lt_z step (pos 0)
     (λ neg. let a : stop ≤ℤ number = here.down neg in let b : stop ≤ℤ (number +ℤ step) = next.down neg in omega (arith, ints))

@@ -4,7 +4,7 @@
 -- (https://openqasm.com/versions/3.0/language/types.html#register-concatenation-and-slicing): both ends of a range
 -- belong to it, and a negative position counts from the end of the register. That a missing start and stop are
 -- exchanged for a negative step is this project's own.
-use Rattle.std.specs.Prelude.{◌≡◌, ◌≢◌, ℕ, zero, suc, ◌+◌, Bool, List, [], ◌∷◌, ℤ, pos, negsuc, ◌+ℤ◌, ◌-ℤ◌, Option, None, Some, if◌then◌else◌, int_lt, nat_lt, not, unsigned_abs, unwrap_or}
+use Rattle.std.specs.Prelude.{◌≡◌, ◌≢◌, ℕ, zero, suc, ◌+◌, ◌/◌, ◌<◌, Bool, List, [], ◌∷◌, length, slice_get, ℤ, pos, negsuc, ◌+ℤ◌, ◌-ℤ◌, ◌*ℤ◌, Option, None, Some, if◌then◌else◌, int_lt, nat_lt, not, unsigned_abs, unwrap_or}
 
 -- whether a range has ended before this number: going by the step, the number lies behind the stop
 abbrev pub has_passed : ℤ → ℤ → ℤ → Bool
@@ -24,6 +24,15 @@ numbers_from start step stop = counted (unsigned_abs (stop -ℤ start) + 1) step
 abbrev pub RangesGoByTheirStep : Type 0
 RangesGoByTheirStep = (start step stop : ℤ) → step ≢ pos 0 →
     numbers_from start step stop ≡ (if has_passed step stop start then [] else start ∷ numbers_from (start +ℤ step) step stop)
+
+-- how many numbers a range has: none once the stop is passed, and else its start and one more for each whole step up to the stop
+abbrev pub how_many : ℤ → ℤ → ℤ → ℕ
+how_many start step stop = if has_passed step stop start then 0 else unsigned_abs (stop -ℤ start) / unsigned_abs step + 1
+
+-- a range has so many numbers, and each is so many steps behind its start
+pub record RangesCountBySteps : Type 0 where
+  pub so_many : (start step stop : ℤ) → step ≢ pos 0 → length (numbers_from start step stop) ≡ how_many start step stop
+  pub each : (start step stop : ℤ) (k : ℕ) → step ≢ pos 0 → k < length (numbers_from start step stop) → slice_get (numbers_from start step stop) k ≡ Some (start +ℤ pos k *ℤ step)
 
 -- a written position, counted from the start of a register of n: a negative one counts from its end, so n is added once
 abbrev pub from_start : ℕ → ℤ → ℤ

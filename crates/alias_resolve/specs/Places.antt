@@ -1,5 +1,5 @@
 -- What index brackets select of a register.
-use Rattle.std.specs.Prelude.{ℕ, suc, ◌<◌, ◌^◌, Bool, true, false, List, [], ◌∷◌, map, length, All, ℤ, pos, Option, None, Some, unwrap_or, Result, Ok, Err, if◌then◌else◌, slice_get, filter_map}
+use Rattle.std.specs.Prelude.{◌≡◌, ◌≢◌, ℕ, suc, ◌<◌, ◌^◌, Bool, true, false, List, [], ◌∷◌, map, length, All, ℤ, pos, Option, None, Some, unwrap_or, Result, Ok, Err, if◌then◌else◌, slice_get, filter_map}
 use Rattle.std.specs.List.{range_with_len}
 use Rattle.std.specs.Ordering.{int_eq}
 use Rattle.alias_resolve.specs.declared.index.IndexValue.{IndexValue}
@@ -38,6 +38,11 @@ places_in fault_at n before (number ∷ numbers) =
 abbrev pub places_of_range : ℕ → ℕ → Option ℤ → ℤ → Option ℤ → Result (List ℕ) SelectFault
 places_of_range index n start step stop =
     if int_eq step (pos 0) then Err (StepZero index) else places_in (λ _. IndexRange index 0) n 0 (range_of n start step stop)
+
+-- no place stands twice among those of one range
+abbrev pub RangePlacesDiffer : Type 0
+RangePlacesDiffer = (index n : ℕ) (start : Option ℤ) (step : ℤ) (stop : Option ℤ) (places : List ℕ) → places_of_range index n start step stop ≡ Ok places
+    → (i j : ℕ) → i < j → j < length places → slice_get places i ≢ slice_get places j
 
 -- a position alone, and a register
 abbrev pub single_of : ℕ → Selected ℕ

@@ -20,6 +20,7 @@ pub fn positions(alloc: Global, length: u32, index: &[IndexValue]) -> Result<Sel
     ensures ok { IfOk result (λ selection. positions_of length index.now ≡ Ok (seen_places selection)) }
     ensures err { IfErr result (λ fault. fault ≢ SelectFault.Memory → positions_of length index.now ≡ Err fault) }
     ensures within { IfOk result (λ selection. All (λ place. place < length) selection.places.items) }
+    ensures few { IfOk result (λ selection. count selection.places.items < 2 ^ 32) }
 {
     let Some((first, later)) = index.split_first() else {
         return Ok(Selection {

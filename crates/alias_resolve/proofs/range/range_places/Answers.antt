@@ -2,9 +2,15 @@ use Rattle.std.proofs.Common.{◌<◌, ◌^◌, ◌∙◌, Ok, arith, ◌+ℤ◌
 use Rattle.std.specs.Int.{w128}
 use Rattle.alias_resolve.specs.declared.select.SelectFault.TheVariants.{IndexRange}
 use Rattle.alias_resolve.proofs.Bits.{through_bits, range_of_bits, step_of_bits, fits_of_bits, sum_of_bits}
+use Rattle.alias_resolve.proofs.Counting.{longer_is_refused}
 use Rattle.alias_resolve.proofs.Ranges.{room, room-falls}
 use Rattle.alias_resolve.proofs.Turns.{turn-passed, turn-outside, turn-place, turn-last}
 use Rattle.alias_resolve.proofs.range.range_places.Goals as goal
+
+pub returns-then-is_longer-clause-err : goal.returns-then-is_longer-clause-err
+returns-then-is_longer-clause-err c =
+    let longer = longer_is_refused (IndexRange c.args.index 0) c.args.size (through_bits c.args.start) (through_bits c.args.step) (through_bits c.args.stop) (step_of_bits c.args.step c.ranges.step c.requires) (sym c.is_longer.ensures ∙ c.if-is_longer.true) in
+    λ _. range_of_bits (λ _. IndexRange c.args.index 0) c.args.size c.args.start c.args.step c.args.stop _ c.ranges.start c.ranges.step c.ranges.stop longer
 
 pub returns-in_default-clause-err : goal.returns-in_default-clause-err
 returns-in_default-clause-err c =

@@ -1,4 +1,5 @@
 use Rattle.std.proofs.Common.{◌+◌, ◌<◌, ◌^◌, ◌∙◌, refl, arith}
+use Rattle.std.proofs.lemmas.List.FromFn.{length-range_with_len}
 use Rattle.std.proofs.lemmas.Result.{err_from_is_err_and}
 use Rattle.alias_resolve.specs.Seen.{seen_places}
 use Rattle.alias_resolve.proofs.Bounds.{All-range, positions_of-first, small-first, small-later, Fits-selected_by, Fits-narrowed, narrowed_by-drop}
@@ -6,6 +7,9 @@ use Rattle.alias_resolve.proofs.select_places.positions.Goals as goal
 
 pub returns-in_default-clause-within : goal.returns-in_default-clause-within
 returns-in_default-clause-within c = rw c.in_ok-all_places.ensures (All-range c.args.length)
+
+pub returns-in_default-clause-few : goal.returns-in_default-clause-few
+returns-in_default-clause-few c = let small : c.args.length < 2 ^ 32 = omega arith in rw (c.in_ok-all_places.ensures, length-range_with_len 0 c.args.length) small
 
 pub returns-in_err-selection-clause-err : goal.returns-in_err-selection-clause-err
 returns-in_err-selection-clause-err c =
