@@ -1,0 +1,11 @@
+pub mod BitNumbers
+pub mod Counting
+pub mod Naming
+pub mod NumberRows
+pub mod Parts
+pub mod Placing
+pub mod Powers
+pub mod RegisterRows
+pub mod Registers
+pub mod RowsOfConstants
+pub mod Walking

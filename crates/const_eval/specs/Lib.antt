@@ -1,0 +1,16 @@
+pub mod Constant
+pub mod Meaning
+pub mod Refusing
+pub mod Results
+pub mod ConstCast
+pub mod ConstOperators
+pub mod ConstIndexes
+pub mod IsConstant
+pub mod ConstValue
+pub mod Seen
+pub mod Rows
+pub mod Answers
+pub mod Numbered
+pub mod ConstantRows
+pub mod Registered
+pub mod Parted
