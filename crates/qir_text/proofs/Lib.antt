@@ -1,0 +1,5 @@
+pub mod Known
+pub mod Making
+pub mod ItemParts
+pub mod ModuleParts
+pub mod Spelled
