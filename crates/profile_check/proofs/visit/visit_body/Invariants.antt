@@ -1,0 +1,7 @@
+use Rattle.std.proofs.Common.{List, ◌++◌, map, take}
+use Rattle.qir_module.specs.Spots.{TheInstr}
+use Rattle.profile_check.specs.Visits.{Placed, placed_items}
+use Rattle.profile_check.proofs.visit.visit_body.Given as goal
+
+abbrev pub invariant-loop-i : goal.invariant-loop-i
+invariant-loop-i g l = (visited : List Placed) → g.V.Visit.Holds l.fn.visitor visited → g.V.Visit.Holds l.visitor (visited ++ placed_items l.block l.from (map TheInstr (take l.i l.body)))

@@ -1,0 +1,10 @@
+use Rattle.std.proofs.Common.{◌≡◌, map, drop}
+use Rattle.qir_module.specs.Spots.{ThePhi}
+use Rattle.profile_check.specs.Walk.{first_item}
+use Rattle.profile_check.proofs.walk.first_phi.Given as goal
+
+-- the first of those that are left is the first of all
+abbrev pub invariant-loop-i : goal.invariant-loop-i
+invariant-loop-i g l =
+    let keeps = g.R.Rule.keeps l.rule l.block in
+    first_item keeps l.i (map ThePhi (drop l.i l.phis)) ≡ first_item keeps 0 (map ThePhi l.phis)

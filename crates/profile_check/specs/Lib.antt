@@ -1,0 +1,15 @@
+pub mod Calls
+pub mod Check
+pub mod First
+pub mod Laws
+pub mod Mentions
+pub mod Names
+pub mod Phis
+pub mod Records
+pub mod Registers
+pub mod Rounds
+pub mod Rule
+pub mod Rules
+pub mod Visits
+pub mod Walk
+pub mod Ways
