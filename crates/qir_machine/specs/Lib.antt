@@ -1,0 +1,12 @@
+pub mod Call
+pub mod Effect
+pub mod Given
+pub mod Laws
+pub mod Layout
+pub mod Memory
+pub mod Performed
+pub mod Phis
+pub mod Ready
+pub mod Remaining
+pub mod Steps
+pub mod Values
