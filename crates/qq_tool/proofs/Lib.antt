@@ -5,6 +5,8 @@ mod Loop
 mod Lowering
 mod Numbers
 mod Orders
+mod Passing
+mod PassingCalls
 mod Pieces
 mod Prefixes
 mod Programs

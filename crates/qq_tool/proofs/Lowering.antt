@@ -15,6 +15,7 @@ use Rattle.qq_tool.specs.ThinRun.{labels_of}
 use Rattle.qq_tool.specs.Compiled.{Implements}
 use Rattle.qq_tool.specs.Lowered.{call, lines_instrs, lines_count, lines_operands, record_instrs, declared_by, last_operands, lowered_block, lowered}
 use Rattle.qq_tool.proofs.Orders.{lowered_numbered}
+use Rattle.qq_tool.proofs.Passing.{lowered_passes}
 use Rattle.qq_tool.proofs.Runs.{lowered_runs}
 use Rattle.qq_tool.proofs.Shapes.{lowered_shaped}
 
@@ -22,6 +23,7 @@ pub lowered_implements : (p : Thin) → IsThin p → Implements (lowered p) p
 lowered_implements p thin = record {
   shaped = lowered_shaped p thin;
   numbered = lowered_numbered p thin;
+  passes = lowered_passes p thin;
   labels = refl;
   qubits = refl;
   same_run = lowered_runs p thin;

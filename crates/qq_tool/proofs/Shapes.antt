@@ -155,7 +155,7 @@ shaped_declared_by lines = search (arith, shaped_more, shaped_if)
 
 -- ---- the module
 
-lines_count-le : (k : ℕ) (lines : List ThinLine) → lines_count k lines ≤ k + length lines
+pub lines_count-le : (k : ℕ) (lines : List ThinLine) → lines_count k lines ≤ k + length lines
 lines_count-le k [] = omega arith
 lines_count-le k (Hadamard qubit ∷ lines) = omega (arith, lines_count-le k lines)
 lines_count-le k (Not qubit ∷ lines) = omega (arith, lines_count-le k lines)

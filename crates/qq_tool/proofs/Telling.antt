@@ -58,9 +58,9 @@ not_reported result other (inl e) a b c h = a (sym h ∙ e)
 not_reported result other (inr (inl e)) a b c h = b (sym h ∙ e)
 not_reported result other (inr (inr e)) a b c h = c (sym h ∙ e)
 
-pub not_bad_words : (result other : Status) → (result ≡ BadWords) ⊎ (result ≡ WriteFault) → other ≢ BadWords → other ≢ WriteFault → result ≢ other
-not_bad_words result other (inl e) a b h = a (sym h ∙ e)
-not_bad_words result other (inr e) a b h = b (sym h ∙ e)
+pub not_told : (status result other : Status) → (result ≡ status) ⊎ (result ≡ WriteFault) → other ≢ status → other ≢ WriteFault → result ≢ other
+not_told status result other (inl e) a b h = a (sym h ∙ e)
+not_told status result other (inr e) a b h = b (sym h ∙ e)
 
 -- a text for `out`, where `err` was not touched
 pub told_out : (due : Status → Texts → Type 0) (out : Change) (err : Option (List ℕ)) (faults : ℕ) (status result : Status) (text : List ℕ) → due status (record { out = text; err = [] })
@@ -197,13 +197,13 @@ code_success OutOfMemory e = absurd (omega (arith, e))
 pub accepts : (command : Option Command) (input out err : Change) (status : Status) → IsAnswer command input out err status
     → (bytes : List ℕ) → input.before ≡ Some bytes → IsThinText bytes → code_of status ≢ 1
 accepts None input out err status answer bytes same thin is =
-    not_bad_words status Refused answer.statuses (λ h. cc) (λ h. cc) (code_refused status is)
+    not_told BadWords status Refused answer.statuses (λ h. cc) (λ h. cc) (code_refused status is)
 accepts (Some command) input out err status answer bytes same thin is =
     accepts_it command input out err status answer bytes same thin (code_refused status is)
 
 pub refuses : (command : Option Command) (input out err : Change) (status : Status) → IsAnswer command input out err status
     → (bytes : List ℕ) (refusal : Refusal) → input.before ≡ Some bytes → IsRefused bytes refusal → code_of status ≢ 0
 refuses None input out err status answer bytes refusal same refused is =
-    not_bad_words status Success answer.statuses (λ h. cc) (λ h. cc) (code_success status is)
+    not_told BadWords status Success answer.statuses (λ h. cc) (λ h. cc) (code_success status is)
 refuses (Some command) input out err status answer bytes refusal same refused is =
     refuses_it command input out err status answer bytes refusal same refused (code_success status is)

@@ -4,6 +4,8 @@ use Rattle.qir_module.specs.Module.{Module, IsShaped}
 use Rattle.qir_module.specs.Written.{written}
 use Rattle.qir_module.specs.Numbered.{IsNumbered}
 use Rattle.qir_module.specs.Machine.{machine_run}
+use Rattle.qir_module.specs.Passes.{Passes}
+use Rattle.qir_module.specs.Spoilt.{IsTextOf}
 use Rattle.qq_tool.specs.Thin.{Thin}
 use Rattle.qq_tool.specs.ThinRun.{source_run, labels_of}
 
@@ -12,10 +14,12 @@ use Rattle.qq_tool.specs.ThinRun.{source_run, labels_of}
 pub record Implements (m : Module) (p : Thin) : Type 0 where
   pub shaped : IsShaped m
   pub numbered : IsNumbered m
+  -- it keeps every rule of the profile
+  pub passes : Passes m
   pub labels : m.labels ≡ labels_of p
   pub qubits : m.qubits ≡ p.qubits
   pub same_run : (outcomes : List Bool) (turns : ℕ) → machine_run m outcomes turns ≡ source_run p outcomes turns
 
--- the text is the canonical text of a module that does what the program does
+-- The text is the canonical text of a module that does what the program does, and reads back as that module.
 abbrev pub IsCompiled : Thin → List ℕ → Type 0
-IsCompiled p text = (m : Module) × Implements m p × (text ≡ written m)
+IsCompiled p text = (m : Module) × Implements m p × (text ≡ written m) × IsTextOf text m

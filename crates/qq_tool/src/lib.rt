@@ -1,10 +1,10 @@
 // The top call of the compiler, `run_tool`: words and three streams in, a status out.
 //
-// It stands on the streams, the lexer, the parser, the modules and the writer. Its parts are `read` (the program
-// that a thin text spells), `check` (that program, or why a text is refused), `lower` (a module that implements
-// the program) and `compile` (its canonical text), under `tool`, which reads, answers and reports. The program
-// above uses the contract of `run_tool` alone: which status and which bytes are due, and the cause of every other
-// answer. `laws` has the laws over the definitions.
+// It stands on the streams, the lexer, the parser, the modules, the writer and the law by which what is written reads
+// back. Its parts are `read` (the program that a thin text spells), `check` (that program, or why a text is refused),
+// `lower` (a module that implements the program) and `compile` (its canonical text), under `tool`, which reads, answers
+// and reports. The program above uses the contract of `run_tool` alone: which status and which bytes are due, and the
+// cause of every other answer. `laws` has the laws over the definitions.
 #![tactic(auto)]
 
 mod check;

@@ -13,8 +13,8 @@ use qir_module::{Arg, Block, Function, Instr, Last, Module, Operand, Profile, Se
 use qq_base::{Label, NoMemory};
 use std::alloc::Global;
 
-/// The module of one block that does what the program does. Its declarations are the functions that it
-/// calls, and its only error is want of memory.
+/// The module of one block that does what the program does and keeps every rule of the profile. Its
+/// declarations are the functions that it calls, and its only error is want of memory.
 pub fn lower_thin(alloc: Global, program: &ThinProgram) -> Result<Module, NoMemory>
     ensures { IfOk result (λ m. Implements m program.now) }
 {

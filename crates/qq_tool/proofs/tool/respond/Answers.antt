@@ -4,7 +4,7 @@ use Rattle.qq_tool.specs.declared.command.Command.{Command}
 use Rattle.qq_tool.specs.declared.status.Status.TheVariants.{Success, BadWords, ReadFault, OutOfMemory}
 use Rattle.qq_tool.specs.Answer.{change, IsAnswer}
 use Rattle.qq_tool.specs.Due.{Due}
-use Rattle.qq_tool.proofs.Telling.{told_err, settles, not_bad_words, keeps_same, reads_some}
+use Rattle.qq_tool.proofs.Telling.{told_err, settles, not_told, keeps_same, reads_some}
 use Rattle.qq_tool.proofs.tool.respond.Goals as goal
 
 pub returns-in-None-clause-answer : goal.returns-in-None-clause-answer
@@ -19,13 +19,13 @@ returns-in-None-clause-answer g c =
           (refl, refl, refl) (settles BadWords c.tell.result answer) c.tell.ensures.whole c.tell.ensures.part;
       writes = record {
         refused = λ _. keeps_same taken;
-        succeeded = λ h. absurd (not_bad_words c.tell.result Success answer (λ e. cc) (λ e. cc) h);
+        succeeded = λ h. absurd (not_told BadWords c.tell.result Success answer (λ e. cc) (λ e. cc) h);
         write_fault = λ h. inr (c.tell.ensures.fault h);
-        read_fault = λ h. absurd (not_bad_words c.tell.result ReadFault answer (λ e. cc) (λ e. cc) h);
-        memory = λ h. absurd (not_bad_words c.tell.result OutOfMemory answer (λ e. cc) (λ e. cc) h);
+        read_fault = λ h. absurd (not_told BadWords c.tell.result ReadFault answer (λ e. cc) (λ e. cc) h);
+        memory = λ h. absurd (not_told BadWords c.tell.result OutOfMemory answer (λ e. cc) (λ e. cc) h);
       };
       read = λ _ most bytes none. absurd cc;
-      read_fault = λ h. absurd (not_bad_words c.tell.result ReadFault answer (λ e. cc) (λ e. cc) h);
+      read_fault = λ h. absurd (not_told BadWords c.tell.result ReadFault answer (λ e. cc) (λ e. cc) h);
       statuses = answer;
     } in
     subst (λ (command : Option Command). IsAnswer command input out err c.tell.result) c.in-None.ensures bad
