@@ -9,4 +9,4 @@ pub goes_further : (old between new : Run) → GoesOn old between → GoesOn bet
 goes_further old between new a b = record { of = b.of ∙ a.of; same = λ outcomes turns. a.same outcomes turns ∙ b.same outcomes turns }
 
 pub shows_after : (old between : Run) (given : Option Bool) (step : Step) (new : Run) → GoesOn old between → Shows between given step new → Shows old given step new
-shows_after old between given step new a b = record { of = b.of ∙ a.of; is_step = step_of_same (remaining old) (remaining between) given step (remaining new) a.same b.is_step }
+shows_after old between given step new a b = record { of = b.of ∙ a.of; is_step = step_of_same (remaining old) (remaining between) given step (remaining new) a.same b.is_step; records_last = b.records_last }

@@ -14,6 +14,7 @@ pub mod Opening
 pub mod Parting
 pub mod Operands
 pub mod PhisThere
+pub mod Recording
 pub mod Rooms
 pub mod Runs
 pub mod SpotFacts

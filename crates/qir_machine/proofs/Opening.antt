@@ -8,6 +8,7 @@ use Rattle.qq_base.specs.Seen.{Seen, Stuck}
 use Rattle.qir_module.specs.declared.block.Phi.{Phi}
 use Rattle.qir_module.specs.declared.block.Block.{Block}
 use Rattle.qir_module.specs.Module.{Module, IsShaped}
+use Rattle.qir_module.specs.Passes.{IsKept, records_kept}
 use Rattle.qir_module.specs.Machine.{State, first_state, take_phis, after_phis, with_phi, run_rest, place_of, jump_to, run_block, run_from, machine_run}
 use Rattle.qir_machine.specs.declared.value.Value.{Value}
 use Rattle.qir_machine.specs.declared.ways.Ways.{Ways}
@@ -65,14 +66,15 @@ starts m registers results some free outcomes turns =
     ∙ ap (λ (t : Option State). after_phis t (λ s'. run_rest (length m.labels) (λ name. jump_to (run_from m (entries_behind m 0 turns) (Some b.name)) 0 (place_of m.blocks name)) b.body b.last s' outcomes turns)) phis)
 
 pub start_ready : (m : Module) (registers results phis : ℕ) (ways : List Ways) → IsShaped m → IsNeverStuck (machine_run m)
-    → ways ≡ map (λ (b : Block). ways_of m.blocks b.last) m.blocks → AllByRecursion (IsRoomForBlock registers results phis) m.blocks → IsReady (first_run m registers results) ways phis
-start_ready m registers results phis ways shaped free ways_are room = record {
+    → ways ≡ map (λ (b : Block). ways_of m.blocks b.last) m.blocks → AllByRecursion (IsRoomForBlock registers results phis) m.blocks → IsKept m records_kept → IsReady (first_run m registers results) ways phis
+start_ready m registers results phis ways shaped free ways_are room kept = record {
   block = shaped.has_block;
   item = omega arith;
   ways_out = ways_are;
   room = subst (λ n. AllByRecursion (IsRoomForBlock n (length (first_run m registers results).results) phis) m.blocks) (sym (length-replicate registers None))
       (subst (λ n. AllByRecursion (IsRoomForBlock registers n phis) m.blocks) (sym (length-replicate results None)) room);
   never_stuck = stays_free (machine_run m) (remaining (first_run m registers results)) (λ outcomes turns. sym (starts m registers results shaped.has_block free outcomes turns)) free;
+  records = kept;
 }
 
 -- tables in which nothing was stored, however they are written
@@ -85,12 +87,13 @@ starts_with m n k registers results empty_registers empty_results some free outc
 
 pub ready_with : (m : Module) (n k phis buffer : ℕ) (ways : List Ways) (blocks : List Block) (registers : List (Option Value)) (results : List (Option Bool)) → IsShaped m → IsNeverStuck (machine_run m)
     → registers ≡ replicate n None → results ≡ replicate k None → buffer ≡ phis → blocks ≡ m.blocks
-    → ways ≡ map (λ (b : Block). ways_of blocks b.last) blocks → AllByRecursion (IsRoomForBlock n k phis) blocks
+    → ways ≡ map (λ (b : Block). ways_of blocks b.last) blocks → AllByRecursion (IsRoomForBlock n k phis) blocks → IsKept m records_kept
     → IsReady (record { of = m; block = 0; item = 0; registers = registers; results = results }) ways buffer
-ready_with m n k phis buffer ways blocks registers results shaped free empty_registers empty_results enough same ways_are room =
+ready_with m n k phis buffer ways blocks registers results shaped free empty_registers empty_results enough same ways_are room kept =
     subst (λ (rs : List (Option Value)). IsReady (record { of = m; block = 0; item = 0; registers = rs; results = results }) ways buffer) (sym empty_registers)
     (subst (λ (ks : List (Option Bool)). IsReady (record { of = m; block = 0; item = 0; registers = replicate n None; results = ks }) ways buffer) (sym empty_results)
     (subst (λ b. IsReady (first_run m n k) ways b) (sym enough)
     (start_ready m n k phis ways shaped free
     (subst (λ (bs : List Block). ways ≡ map (λ (b : Block). ways_of bs b.last) bs) same ways_are)
-    (subst (λ (bs : List Block). AllByRecursion (IsRoomForBlock n k phis) bs) same room))))
+    (subst (λ (bs : List Block). AllByRecursion (IsRoomForBlock n k phis) bs) same room)
+    kept)))

@@ -54,6 +54,7 @@ entered_ready run ways phis now to next registers results ready there same_phis 
       (subst (λ n. AllByRecursion (IsRoomForBlock (length run.registers) n now) run.of.blocks) (sym same_results)
       (subst (λ n. AllByRecursion (IsRoomForBlock (length run.registers) (length run.results) n) run.of.blocks) (sym same_phis) ready.room));
   never_stuck = free;
+  records = ready.records;
 }
 
 -- ---- what the end of the block does

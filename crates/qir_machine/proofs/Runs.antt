@@ -65,7 +65,7 @@ behind_at (Measures qubit result s) later [] turns = refl
 behind_at (Measures qubit result s) later (outcome ∷ outcomes) turns = refl
 behind_at Fails later outcomes turns = refl
 
-drop_next : {A : Type 0} (xs : List A) (i : ℕ) (x : A) → slice_get xs i ≡ Some x → drop i xs ≡ x ∷ drop (i + 1) xs
+pub drop_next : {A : Type 0} (xs : List A) (i : ℕ) (x : A) → slice_get xs i ≡ Some x → drop i xs ≡ x ∷ drop (i + 1) xs
 drop_next [] i x is = absurd (cc)
 drop_next (y ∷ ys) zero x is = let same : y ≡ x = cc in ap (λ z. z ∷ ys) same
 drop_next (y ∷ ys) (suc i) x is = drop_next ys i x is ∙ ap (λ n. x ∷ drop n (y ∷ ys)) same

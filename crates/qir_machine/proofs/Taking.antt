@@ -15,6 +15,7 @@ use Rattle.qir_machine.specs.Steps.{IsAsk}
 use Rattle.qir_machine.specs.Effect.{effect_from, IsStuck, IsAsking, IsRoomFor}
 use Rattle.qir_machine.specs.Performed.{IsShown, IsPerformed}
 use Rattle.qir_machine.specs.Ready.{body_length, items_here, IsRoomForBlock, IsNeverStuck, IsReady, IsNext, Shows}
+use Rattle.qir_machine.proofs.Recording.{IsLast, last_behind}
 use Rattle.qir_machine.proofs.Runs.{behind_run, not_stuck_at, asked_at, instruction_taken}
 
 pub all_at : {A : Type 0} (P : A → Type 0) (xs : List A) (i : ℕ) (x : A) → AllByRecursion P xs → slice_get xs i ≡ Some x → P x
@@ -66,12 +67,13 @@ taken_ready run ways phis registers results ready more same_registers same_resul
   room = subst (λ n. AllByRecursion (IsRoomForBlock n (length results) phis) run.of.blocks) (sym same_registers)
       (subst (λ n. AllByRecursion (IsRoomForBlock (length run.registers) n phis) run.of.blocks) (sym same_results) ready.room);
   never_stuck = free;
+  records = ready.records;
 }
 
 pub next_or_shown : (old new : Run) (given : Option Bool) (step : Option Step) → new.of ≡ old.of → new.block ≡ old.block → new.item ≡ old.item + 1 → IsShown (remaining old) given step (remaining new)
-    → MatchOption step (IsNext old new) (λ shown. Shows old given shown new)
-next_or_shown old new given None of block item is = record { goes_on = record { of = of; same = is }; block = block; item = item }
-next_or_shown old new given (Some step) of block item is = record { of = of; is_step = is }
+    → IsLast step (remaining new) → MatchOption step (IsNext old new) (λ shown. Shows old given shown new)
+next_or_shown old new given None of block item is last = record { goes_on = record { of = of; same = is }; block = block; item = item }
+next_or_shown old new given (Some step) of block item is last = record { of = of; is_step = is; records_last = last }
 
 pub taking : (run : Run) (ways : List Ways) (phis : ℕ) (b : Block) (instr : Instr) (effect : Effect) (labels : ℕ) (given : Option Bool) (step : Option Step) (registers : List (Option Value)) (results : List (Option Bool))
     → IsReady run ways phis → slice_get run.of.blocks run.block ≡ Some b → slice_get b.body run.item ≡ Some instr
@@ -80,6 +82,15 @@ pub taking : (run : Run) (ways : List Ways) (phis : ℕ) (b : Block) (instr : In
     → IsShown (remaining run) given step (remaining (behind_run run registers results))
 taking run ways phis b instr effect labels given step registers results ready here next counted is performed =
     instruction_taken run b instr (effect_from (state_in run) effect) given step registers results here next (is ∙ ap (λ n. effect_of n (state_in run) instr) counted) performed
+
+-- a record that was taken is behind all events
+pub taking_last : (run : Run) (ways : List Ways) (phis : ℕ) (b : Block) (instr : Instr) (effect : Effect) (labels : ℕ) (given : Option Bool) (step : Option Step) (registers : List (Option Value)) (results : List (Option Bool))
+    → IsReady run ways phis → slice_get run.of.blocks run.block ≡ Some b → slice_get b.body run.item ≡ Some instr
+    → labels ≡ length run.of.labels → effect_from (state_in run) effect ≡ effect_of labels (state_in run) instr
+    → ((later : Later) → IsPerformed (effect_from (state_in run) effect) later given step (stored_in registers results))
+    → IsLast step (remaining (behind_run run registers results))
+taking_last run ways phis b instr effect labels given step registers results ready here next counted is performed =
+    last_behind run b instr (effect_from (state_in run) effect) given step registers results ready.records here next (is ∙ ap (λ n. effect_of n (state_in run) instr) counted) performed
 
 pub never_stuck_at : (run : Run) (ways : List Ways) (phis : ℕ) (b : Block) (instr : Instr) (effect : Effect) (labels : ℕ)
     → IsReady run ways phis → slice_get run.of.blocks run.block ≡ Some b → slice_get b.body run.item ≡ Some instr

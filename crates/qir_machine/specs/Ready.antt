@@ -8,12 +8,13 @@ use Rattle.qir_module.specs.declared.instruction.Last.TheVariants.{Jump, Branch,
 use Rattle.qir_module.specs.declared.block.Phi.{Phi}
 use Rattle.qir_module.specs.declared.block.Block.{Block}
 use Rattle.qir_module.specs.Machine.{State, truth_in, place_of}
+use Rattle.qir_module.specs.Passes.{IsKept, records_kept}
 use Rattle.qir_machine.specs.declared.ways.Ways.{Ways}
 use Rattle.qir_machine.specs.declared.ways.Exit.{Exit}
 use Rattle.qir_machine.specs.declared.ways.Exit.TheVariants.{Ends, Enters, Nowhere}
 use Rattle.qir_machine.specs.Effect.{IsRoomFor}
 use Rattle.qir_machine.specs.Remaining.{Run, remaining}
-use Rattle.qir_machine.specs.Steps.{Remains, AreSame, IsStep}
+use Rattle.qir_machine.specs.Steps.{Remains, AreSame, IsStep, RecordsComeLast}
 
 -- ---- the ways out of a block
 
@@ -63,6 +64,7 @@ pub record IsReady (run : Run) (ways : List Ways) (phis : ℕ) : Type 0 where
   pub ways_out : ways ≡ map (λ (b : Block). ways_of run.of.blocks b.last) run.of.blocks
   pub room : AllByRecursion (IsRoomForBlock (length run.registers) (length run.results) phis) run.of.blocks
   pub never_stuck : IsNeverStuck (remaining run)
+  pub records : IsKept run.of records_kept
 
 -- ---- what parts of a step do
 
@@ -90,3 +92,4 @@ pub record IsAtEnd (old new : Run) : Type 0 where
 pub record Shows (old : Run) (given : Option Bool) (step : Step) (new : Run) : Type 0 where
   pub of : new.of ≡ old.of
   pub is_step : IsStep (remaining old) given step (remaining new)
+  pub records_last : RecordsComeLast step (remaining new)

@@ -45,3 +45,8 @@ IsStep old given (Record shown) new = IsRecord old shown new
 IsStep old given Ask new = IsAsk old given new
 IsStep old given Turn new = IsTurn old new
 IsStep old given Done new = IsDone old new
+
+-- behind a record there are no events
+abbrev pub RecordsComeLast : Step → Remains → Type 0
+RecordsComeLast (Record shown) new = (outcomes : List Bool) (turns : ℕ) → (new outcomes turns).events ≡ []
+RecordsComeLast _ new = Unit {0}

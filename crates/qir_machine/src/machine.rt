@@ -4,7 +4,7 @@ ghost use Rattle.std.specs.Prelude.{◌≡◌, ℕ, ◌+◌, ◌<◌, Bool, Opti
 ghost use Rattle.qir_module.specs.Machine.{machine_run};
 ghost use Rattle.qir_module.specs.Passes.{Passes};
 ghost use Rattle.qir_machine.specs.Remaining.{Run, remaining};
-ghost use Rattle.qir_machine.specs.Steps.{AreSame, IsStep};
+ghost use Rattle.qir_machine.specs.Steps.{AreSame, IsStep, RecordsComeLast};
 ghost use Rattle.qir_machine.specs.Ready.{items_here, IsNext, IsLater, IsAtEnd, Shows};
 
 use crate::effect::instruction_effect;
@@ -152,10 +152,12 @@ impl<'m> Machine<'m> {
 
     /// Runs up to the next event, record, question or turn, or to the end. An outcome is used exactly by a
     /// measurement; a question comes exactly where a measurement is next and no outcome was given, and changes
-    /// nothing; a turn is a jump to a block that does not stand later in the text.
+    /// nothing; a turn is a jump to a block that does not stand later in the text. Behind a record there are only
+    /// records.
     pub fn step(&mut self, outcome: Option<bool>) -> Step
         ensures same_module { self.new.of ≡ self.old.of }
         ensures step { IsStep (remaining self.old) outcome result (remaining self.new) }
+        ensures records_last { RecordsComeLast result (remaining self.new) }
     {
         'forwards: loop {
             if let Some(step) = self.run_block(outcome) {

@@ -42,6 +42,7 @@ returns-in-Ends c = λ outcome. rw (← c.self.view_is) (record {
       ends_here _ _ _ _ _
       (record { ready = c.self.invariant; here = c.block_at-block.ensures; found = c.ways_at.ensures; end = subst (λ (r : Run). r.item ≡ items_here r) (sym c.self.view_is) c.requires })
       c.in-Ends.ensures;
+  records_last = tt;
 })
 
 pub invariant_of-self : goal.invariant_of-self
@@ -76,4 +77,5 @@ returns-else-later c = λ outcome. rw (← c.self.view_is) (record {
   is_step = goes_back _ _ _ _ _ _ _ _ c.enter_phis.new.memory.registers.items c.enter_phis.new.memory.results.items
       (record { ready = c.self.invariant; here = c.block_at-block.ensures; found = c.ways_at.ensures; end = subst (λ (r : Run). r.item ≡ items_here r) (sym c.self.view_is) c.requires })
       c.in-Enters.ensures c.block_at.ensures c.phis_of-phis.ensures c.if-not-enter_phis.ensures.state c.if-later.false;
+  records_last = tt;
 })

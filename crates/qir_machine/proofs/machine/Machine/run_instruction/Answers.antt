@@ -2,7 +2,7 @@ use Rattle.std.proofs.Common.{◌≡◌, ◌<◌, true, false, refl, sym, subst,
 use Rattle.qir_machine.specs.Remaining.{Run}
 use Rattle.qir_machine.specs.Ready.{items_here}
 use Rattle.qir_machine.proofs.Runs.{shown_free}
-use Rattle.qir_machine.proofs.Taking.{room_for, never_stuck_at, asking_at, taking, taken_ready, next_or_shown}
+use Rattle.qir_machine.proofs.Taking.{room_for, never_stuck_at, asking_at, taking, taking_last, taken_ready, next_or_shown}
 use Rattle.qir_machine.proofs.machine.Machine.run_instruction.Goals as goal
 
 pub overflow_add-self : goal.overflow_add-self
@@ -30,6 +30,8 @@ pub returns : goal.returns
 returns c =
     rw (← c.self.view_is) (next_or_shown _ _ _ _ refl refl refl
     (taking _ _ _ _ _ _ _ _ _ c.perform-step.new.memory.registers.items c.perform-step.new.memory.results.items c.self.invariant c.block_at.ensures c.instruction_at-instr.ensures.found c.label_count.ensures
+    c.instruction_effect-effect.ensures.runs c.perform-step.ensures.performed)
+    (taking_last _ _ _ _ _ _ _ _ _ c.perform-step.new.memory.registers.items c.perform-step.new.memory.results.items c.self.invariant c.block_at.ensures c.instruction_at-instr.ensures.found c.label_count.ensures
     c.instruction_effect-effect.ensures.runs c.perform-step.ensures.performed))
 
 pub returns-then-asks : goal.returns-then-asks
@@ -38,4 +40,5 @@ returns-then-asks c =
       of = refl;
       is_step =
           asking_at _ _ _ _ _ _ _ _ c.self.invariant c.block_at.ensures c.instruction_at-instr.ensures.found c.label_count.ensures c.instruction_effect-effect.ensures.runs (c.if-asks.ensures.0 refl);
+      records_last = tt;
     })

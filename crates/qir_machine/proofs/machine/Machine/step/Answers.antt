@@ -18,6 +18,9 @@ pub returns-in-Some-leave_block-clause-step : goal.returns-in-Some-leave_block-c
 returns-in-Some-leave_block-clause-step c =
     (shows_after _ _ _ _ _ (goes_further _ _ _ c.forwards.invariant c.in_default.ensures.goes_on) (c.in-Some-leave_block.ensures c.args.outcome)).is_step
 
+pub returns-in-Some-leave_block-clause-records_last : goal.returns-in-Some-leave_block-clause-records_last
+returns-in-Some-leave_block-clause-records_last c = (c.in-Some-leave_block.ensures c.args.outcome).records_last
+
 pub forwards-smaller : goal.forwards-smaller
 forwards-smaller c =
     let blocks = λ (m : Module). length m.blocks in
