@@ -1,0 +1,4 @@
+mod Gates
+mod Labels
+mod Prints
+mod Shows
