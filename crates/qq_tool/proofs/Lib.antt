@@ -1,4 +1,5 @@
 mod Decided
+mod Headlines
 mod Lengths
 mod Lines
 mod Loop
@@ -8,8 +9,11 @@ mod Orders
 mod Passing
 mod PassingCalls
 mod Pieces
+mod Playing
 mod Prefixes
 mod Programs
+mod QirRules
+mod QirTexts
 mod Refusals
 mod Runs
 mod Shapes
@@ -18,6 +22,9 @@ mod Texts
 mod ThinApart
 mod ThinPieces
 mod ThinPrograms
+mod Tasks
+mod Told
+mod Words
 mod Worked
 mod Written
 mod WrittenLines

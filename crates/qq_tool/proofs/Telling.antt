@@ -1,82 +1,23 @@
--- What was written on the sinks, and what is due.
-use Rattle.std.proofs.Common.{◌≡◌, ◌≢◌, ◌⊎◌, ℕ, ◌<◌, ◌≤◌, List, [], ◌++◌, length, take, drop, Option, Some, None, IsNone, refl, sym, ap, ◌∙◌, subst, inl, inr, arith, append-nil}
-use Rattle.std.proofs.lemmas.List.{length-append, take-append-drop}
-use Rattle.std.specs.Io.KnownBytes.{Appends, Consumes, IsAtEnd, Keeps}
+-- What was read of the input, and which status a text never has.
+use Rattle.std.proofs.Common.{◌≡◌, ◌≢◌, ℕ, ◌<◌, ◌≤◌, List, [], ◌++◌, length, Option, Some, None, IsNone, refl, sym, ap, ◌∙◌, subst, inl, inr, arith, append-nil}
+use Rattle.std.proofs.lemmas.List.{length-append}
+use Rattle.std.specs.Io.KnownBytes.{Consumes, IsAtEnd}
+use Rattle.qir_module.specs.Machine.{machine_run}
+use Rattle.qir_module.specs.Module.{Module}
+use Rattle.qq_base.specs.Seen.{Ending, Ended, Stuck}
+use Rattle.qq_base.specs.Seen as ending
 use Rattle.qq_base.specs.declared.refusal.Refusal.{Refusal}
-use Rattle.qq_tool.specs.declared.command.Command.{Command}
-use Rattle.qq_tool.specs.declared.command.Command.TheVariants.{Compile, Check}
 use Rattle.qq_tool.specs.declared.status.Status.{Status}
-use Rattle.qq_tool.specs.declared.status.Status.TheVariants.{Success, Refused, BadWords, ReadFault, WriteFault, OutOfMemory}
-use Rattle.qq_tool.specs.Command.{source_limit, input_limit}
-use Rattle.qq_tool.specs.Status.{code_of}
+use Rattle.qq_tool.specs.declared.status.Status.TheVariants.{Success, Refused, BadWords, ReadFault, WriteFault, OutOfMemory, Asked, Turning}
+use Rattle.qq_tool.specs.Command.{Command, Compile, Check, Verify, Run, input_limit, TakesSource, OfCompile, OfCheck, TakesModule, OfVerify, OfRun}
+use Rattle.qq_tool.specs.Status.{code_of, IsStatusOfFate}
+use Rattle.qq_tool.specs.QirRefused.{IsQirRefused, IsPassing, AreApart}
 use Rattle.qq_tool.specs.Refused.{IsRefused}
-use Rattle.qq_tool.specs.Thin.{IsThinText}
+use Rattle.qq_tool.specs.Thin.{Thin, IsThinText}
+use Rattle.qq_tool.specs.Answer.{IsAnswer, IsInput, IsReading, IsRead, Change, IsDueStatus, IsShownStatus, IsSuccess, IsAsked, IsTurning}
+use Rattle.qq_tool.specs.Compiled.{IsCompiled}
+use Rattle.qq_tool.specs.Due.{Texts, Due, DueOfSource, DueOfModule, IsShownRun, ok_line}
 use Rattle.qq_tool.proofs.Lengths.{not_refused}
-use Rattle.qq_tool.specs.Answer.{IsAnswer, IsInput, IsReading, IsRead, IsStatusOf, Change, change, Adds, AddsPart, IsDueStatus, Tells}
-use Rattle.qq_tool.specs.Due.{Texts, Due, DueRefusal, DueOutput, IsOutput}
-
-pub keeps_same : (bytes : Option (List ℕ)) → Keeps bytes bytes
-keeps_same None = tt
-keeps_same (Some xs) = refl
-
-pub adds_none : (bytes : Option (List ℕ)) → Appends bytes bytes []
-adds_none None = tt
-adds_none (Some xs) = sym (append-nil xs)
-
--- a sink that was not touched took the front of every text
-pub untouched : (bytes : Option (List ℕ)) (faults : ℕ) (text : List ℕ) → AddsPart (change bytes bytes faults faults) text
-untouched bytes faults text = ([], text, refl, adds_none bytes)
-
--- the first bytes of a text are a part of it
-pub part_of : (c : Change) (text : List ℕ) (n : ℕ) → Adds c (take n text) → AddsPart c text
-part_of c text n h = (take n text, drop n text, sym (take-append-drop n text), h)
-
--- a status with its texts is due, and is answered with them unless something failed
-pub told : (due : Status → Texts → Type 0) (out err : Change) (status result : Status) (texts : Texts) → due status texts
-    → (IsDueStatus result → result ≡ status)
-    → (result ≡ status → Adds out texts.out × Adds err texts.err)
-    → (result ≡ WriteFault → AddsPart out texts.out × AddsPart err texts.err)
-    → Tells due out err result
-told due out err status result texts is_due settled whole part = record {
-  done = λ h. let e = settled h in (texts, subst (λ (s : Status). due s texts) (sym e) is_due, (whole e).0, (whole e).1);
-  part = λ h. (status, texts, is_due, (part h).0, (part h).1);
-}
-
--- which result is no failure
-pub settles : (status result : Status) → (result ≡ status) ⊎ (result ≡ WriteFault) → IsDueStatus result → result ≡ status
-settles status result (inl e) h = e
-settles status result (inr e) h = absurd (h.1 e)
-
-pub settles_or_memory : (status result : Status) → (result ≡ status) ⊎ ((result ≡ WriteFault) ⊎ (result ≡ OutOfMemory)) → IsDueStatus result → result ≡ status
-settles_or_memory status result (inl e) h = e
-settles_or_memory status result (inr (inl e)) h = absurd (h.1 e)
-settles_or_memory status result (inr (inr e)) h = absurd (h.2 e)
-
--- it is none of the statuses of other ends
-pub not_reported : (result other : Status) → (result ≡ Refused) ⊎ ((result ≡ WriteFault) ⊎ (result ≡ OutOfMemory)) → other ≢ Refused → other ≢ WriteFault → other ≢ OutOfMemory → result ≢ other
-not_reported result other (inl e) a b c h = a (sym h ∙ e)
-not_reported result other (inr (inl e)) a b c h = b (sym h ∙ e)
-not_reported result other (inr (inr e)) a b c h = c (sym h ∙ e)
-
-pub not_told : (status result other : Status) → (result ≡ status) ⊎ (result ≡ WriteFault) → other ≢ status → other ≢ WriteFault → result ≢ other
-not_told status result other (inl e) a b h = a (sym h ∙ e)
-not_told status result other (inr e) a b h = b (sym h ∙ e)
-
--- a text for `out`, where `err` was not touched
-pub told_out : (due : Status → Texts → Type 0) (out : Change) (err : Option (List ℕ)) (faults : ℕ) (status result : Status) (text : List ℕ) → due status (record { out = text; err = [] })
-    → (IsDueStatus result → result ≡ status) → (result ≡ status → Adds out text) → (result ≡ WriteFault → AddsPart out text)
-    → Tells due out (change err err faults faults) result
-told_out due out err faults status result text is_due settled whole part =
-    told due out (change err err faults faults) status result (record { out = text; err = [] }) is_due settled
-    (λ h. (whole h, adds_none err)) (λ h. (part h, untouched err faults []))
-
--- a text for `err`, where `out` was not touched
-pub told_err : (due : Status → Texts → Type 0) (err : Change) (out : Option (List ℕ)) (faults : ℕ) (status result : Status) (text : List ℕ) → due status (record { out = []; err = text })
-    → (IsDueStatus result → result ≡ status) → (result ≡ status → Adds err text) → (result ≡ WriteFault → AddsPart err text)
-    → Tells due (change out out faults faults) err result
-told_err due err out faults status result text is_due settled whole part =
-    told due (change out out faults faults) err status result (record { out = []; err = text }) is_due settled
-    (λ h. (adds_none out, whole h)) (λ h. (untouched out faults [], part h))
 
 -- ---- what was read
 
@@ -101,109 +42,204 @@ front_gone None after came bytes gone same = cc
 front_gone (Some xs) None came bytes gone same = absurd gone
 front_gone (Some xs) (Some ys) came bytes gone same = let told : xs ≡ bytes = cc in (ys, sym told ∙ gone, refl)
 
--- ---- every command so far reads a source text
+-- ---- every command reads
 
 pub reads : (command : Command) → IsReading (Some command)
 reads Compile = refl
 reads Check = refl
+reads Verify = refl
+reads (Run outcomes turns) = refl
 
-pub reads_some : (command : Command) (words : Option Command) → Some command ≡ words → IsNone (input_limit words) → ⊥
-reads_some Compile words e none = let limit : input_limit (Some Compile) ≡ input_limit words = ap input_limit e in cc
-reads_some Check words e none = let limit : input_limit (Some Check) ≡ input_limit words = ap input_limit e in cc
-
-pub limit_is : (command : Command) (most : ℕ) → input_limit (Some command) ≡ Some most → source_limit ≡ most
-limit_is Compile most e = cc
-limit_is Check most e = cc
+pub reads_some : (command : Command) (words : Option Command) → words ≡ Some command → IsNone (input_limit words) → ⊥
+reads_some command words e none = let reading : IsReading (Some command) = reads command in let limit : input_limit words ≡ input_limit (Some command) = ap input_limit e in cc
 
 pub input_told : (command : Command) (left : Option (List ℕ)) (bytes : List ℕ) → IsInput (Some command) left bytes → left ≡ Some bytes
 input_told command left bytes same = same (reads command)
 
-pub status_of : (command : Command) (status : Status) → status ≢ BadWords → IsStatusOf (Some command) status
-status_of Compile status is = is
-status_of Check status is = is
-
--- what is due for a source text
-pub due_of_source : (command : Command) (bytes : List ℕ) (status : Status) (texts : Texts) → DueRefusal bytes status texts ⊎ DueOutput (IsOutput command) bytes status texts → Due (Some command) bytes status texts
-due_of_source Compile bytes status texts due = due
-due_of_source Check bytes status texts due = due
-
-source_due : (command : Command) (bytes : List ℕ) (status : Status) (texts : Texts) → Due (Some command) bytes status texts → DueRefusal bytes status texts ⊎ DueOutput (IsOutput command) bytes status texts
-source_due Compile bytes status texts due = due
-source_due Check bytes status texts due = due
+pub same_limit : (limit most : ℕ) (of : Option ℕ) → of ≡ Some limit → of ≡ Some most → limit ≡ most
+same_limit limit most of p q = cc
 
 -- an input that was read to its end, and is no longer than the limit
-pub read_whole : (command : Command) (before after : Option (List ℕ)) (came : List ℕ) → Consumes before after came → IsAtEnd after → length came ≤ source_limit
-    → (most : ℕ) (bytes : List ℕ) → input_limit (Some command) ≡ Some most → before ≡ Some bytes → IsRead most bytes after
-read_whole command before after came gone end within most bytes limit same = record {
+pub read_whole : (limit : ℕ) (of : Option ℕ) (before after : Option (List ℕ)) (came : List ℕ) → of ≡ Some limit → Consumes before after came → IsAtEnd after → length came ≤ limit
+    → (most : ℕ) (bytes : List ℕ) → of ≡ Some most → before ≡ Some bytes → IsRead most bytes after
+read_whole limit of before after came is gone end within most bytes same_most same = record {
   whole = λ _. nothing_left before after came bytes gone end same;
-  front = λ long. absurd (omega (arith, long, within, limit_is command most limit, ap length (whole_input before after came bytes gone end same)));
+  front = λ long. absurd (omega (arith, long, within, same_limit limit most of is same_most, ap length (whole_input before after came bytes gone end same)));
 }
 
 -- an input of which more came than the limit
-pub read_front : (command : Command) (before after : Option (List ℕ)) (came : List ℕ) → Consumes before after came → source_limit < length came
-    → (most : ℕ) (bytes : List ℕ) → input_limit (Some command) ≡ Some most → before ≡ Some bytes → IsRead most bytes after
-read_front command before after came gone long most bytes limit same =
+pub read_front : (limit : ℕ) (of : Option ℕ) (before after : Option (List ℕ)) (came : List ℕ) → of ≡ Some limit → Consumes before after came → limit < length came
+    → (most : ℕ) (bytes : List ℕ) → of ≡ Some most → before ≡ Some bytes → IsRead most bytes after
+read_front limit of before after came is gone long most bytes same_most same =
     let rest = front_gone before after came bytes gone same in
     record {
-      whole = λ short. absurd (omega (arith, short, long, limit_is command most limit, ap length rest.1, length-append came rest.0));
-      front = λ _. (came, rest.0, rest.1, omega (arith, long, limit_is command most limit), rest.2);
+      whole = λ short. absurd (omega (arith, short, long, same_limit limit most of is same_most, ap length rest.1, length-append came rest.0));
+      front = λ _. (came, rest.0, rest.1, omega (arith, long, same_limit limit most of is same_most), rest.2);
     }
 
 -- ---- accepted and refused
 
 -- the texts that are due at a status other than those of a fault
 due_of : (command : Command) (input out err : Change) (status : Status) (bytes : List ℕ) → IsAnswer (Some command) input out err status
-    → input.before ≡ Some bytes → IsDueStatus status → (texts : Texts) × (DueRefusal bytes status texts ⊎ DueOutput (IsOutput command) bytes status texts)
-due_of command input out err status bytes answer same settled =
-    let told = (answer.tells bytes (λ _. same)).done settled in (told.0, source_due command bytes status told.0 told.1)
+    → input.before ≡ Some bytes → IsDueStatus status → (texts : Texts) × Due (Some command) bytes status texts
+due_of command input out err status bytes answer same settled = let told = (answer.tells bytes (λ _. same)).done settled in (told.0, told.1)
 
--- no text that is accepted is refused
-accepts_it : (command : Command) (input out err : Change) (status : Status) → IsAnswer (Some command) input out err status
+settled_as : (status other : Status) → status ≡ other → other ≢ ReadFault → other ≢ WriteFault → other ≢ OutOfMemory → IsDueStatus status
+settled_as status other e a b c = (λ h. a (sym e ∙ h), λ h. b (sym e ∙ h), λ h. c (sym e ∙ h))
+
+source_accepts : (fits : Thin → List ℕ → Type 0) (bytes : List ℕ) (status : Status) (texts : Texts) → DueOfSource fits bytes status texts → IsThinText bytes → status ≢ Refused
+source_accepts fits bytes status texts (inl refusal) thin is = not_refused bytes refusal.2 thin refusal.3
+source_accepts fits bytes status texts (inr text) thin is = let none = text.0 in cc
+
+source_refuses : (fits : Thin → List ℕ → Type 0) (bytes : List ℕ) (status : Status) (texts : Texts) (refusal : Refusal) → DueOfSource fits bytes status texts → IsRefused bytes refusal → status ≢ Success
+source_refuses fits bytes status texts refusal (inl other) refused is = let none = other.0 in cc
+source_refuses fits bytes status texts refusal (inr text) refused is = not_refused bytes refusal (text.2, text.3) refused
+
+accepts_it : (command : Command) (input out err : Change) (status : Status) → TakesSource command → IsAnswer (Some command) input out err status
     → (bytes : List ℕ) → input.before ≡ Some bytes → IsThinText bytes → status ≢ Refused
-accepts_it command input out err status answer bytes same thin is =
-    at (due_of command input out err status bytes answer same ((λ h. absurd cc), (λ h. absurd cc), (λ h. absurd cc)))
-  where
-    at : ((texts : Texts) × (DueRefusal bytes status texts ⊎ DueOutput (IsOutput command) bytes status texts)) → ⊥
-    at (texts, inl refusal) = not_refused bytes refusal.2 thin refusal.3
-    at (texts, inr text) = let none = text.0 in cc
+accepts_it Compile input out err status OfCompile answer bytes same thin is =
+    let due = due_of Compile input out err status bytes answer same (settled_as status Refused is (λ h. cc) (λ h. cc) (λ h. cc)) in
+    source_accepts IsCompiled bytes status due.0 due.1 thin is
+accepts_it Check input out err status OfCheck answer bytes same thin is =
+    let due = due_of Check input out err status bytes answer same (settled_as status Refused is (λ h. cc) (λ h. cc) (λ h. cc)) in
+    source_accepts (λ p text. text ≡ ok_line) bytes status due.0 due.1 thin is
+accepts_it Verify input out err status takes answer bytes same thin is = elim takes [ ]
+accepts_it (Run outcomes turns) input out err status takes answer bytes same thin is = elim takes [ ]
 
--- no text that is refused is accepted
-refuses_it : (command : Command) (input out err : Change) (status : Status) → IsAnswer (Some command) input out err status
+refuses_it : (command : Command) (input out err : Change) (status : Status) → TakesSource command → IsAnswer (Some command) input out err status
     → (bytes : List ℕ) (refusal : Refusal) → input.before ≡ Some bytes → IsRefused bytes refusal → status ≢ Success
-refuses_it command input out err status answer bytes refusal same refused is =
-    at (due_of command input out err status bytes answer same ((λ h. absurd cc), (λ h. absurd cc), (λ h. absurd cc)))
-  where
-    at : ((texts : Texts) × (DueRefusal bytes status texts ⊎ DueOutput (IsOutput command) bytes status texts)) → ⊥
-    at (texts, inl other) = let none = other.0 in cc
-    at (texts, inr text) = not_refused bytes refusal (text.2, text.3) refused
+refuses_it Compile input out err status OfCompile answer bytes refusal same refused is =
+    let due = due_of Compile input out err status bytes answer same (settled_as status Success is (λ h. cc) (λ h. cc) (λ h. cc)) in
+    source_refuses IsCompiled bytes status due.0 refusal due.1 refused is
+refuses_it Check input out err status OfCheck answer bytes refusal same refused is =
+    let due = due_of Check input out err status bytes answer same (settled_as status Success is (λ h. cc) (λ h. cc) (λ h. cc)) in
+    source_refuses (λ p text. text ≡ ok_line) bytes status due.0 refusal due.1 refused is
+refuses_it Verify input out err status takes answer bytes refusal same refused is = elim takes [ ]
+refuses_it (Run outcomes turns) input out err status takes answer bytes refusal same refused is = elim takes [ ]
 
--- the same of the words, and of the number of the status
-code_refused : (status : Status) → code_of status ≡ 1 → status ≡ Refused
-code_refused Success e = absurd (omega (arith, e))
-code_refused Refused e = refl
-code_refused BadWords e = absurd (omega (arith, e))
-code_refused ReadFault e = absurd (omega (arith, e))
-code_refused WriteFault e = absurd (omega (arith, e))
-code_refused OutOfMemory e = absurd (omega (arith, e))
+-- ---- passing and broken
 
-code_success : (status : Status) → code_of status ≡ 0 → status ≡ Success
-code_success Success e = refl
-code_success Refused e = absurd (omega (arith, e))
-code_success BadWords e = absurd (omega (arith, e))
-code_success ReadFault e = absurd (omega (arith, e))
-code_success WriteFault e = absurd (omega (arith, e))
-code_success OutOfMemory e = absurd (omega (arith, e))
+-- the text is refused, or what is given of it is given of a module that passes
+module_accepts : (gives : Module → Status → List ℕ → Type 0) (bytes : List ℕ) (status : Status) (texts : Texts) (m : Module) → AreApart → ((of : Module) → gives of Refused texts.out → ⊥)
+    → DueOfModule gives bytes status texts → IsPassing bytes m → status ≢ Refused
+module_accepts gives bytes status texts m apart none (inl refusal) passing is = apart bytes m texts.err passing refusal.2
+module_accepts gives bytes status texts m apart none (inr given) passing is = none given.1 (subst (λ (s : Status). gives given.1 s texts.out) is given.3)
 
-pub accepts : (command : Option Command) (input out err : Change) (status : Status) → IsAnswer command input out err status
+module_refuses : (gives : Module → Status → List ℕ → Type 0) (bytes : List ℕ) (status : Status) (texts : Texts) (line : List ℕ) → AreApart
+    → DueOfModule gives bytes status texts → IsQirRefused bytes line → IsShownStatus status → ⊥
+module_refuses gives bytes status texts line apart (inl refusal) refused IsSuccess = let none = refusal.0 in cc
+module_refuses gives bytes status texts line apart (inl refusal) refused IsAsked = let none = refusal.0 in cc
+module_refuses gives bytes status texts line apart (inl refusal) refused IsTurning = let none = refusal.0 in cc
+module_refuses gives bytes status texts line apart (inr given) refused shown = apart bytes given.1 line given.2 refused
+
+-- no status of a refusal, or of a failure, is given of a module
+verify_never : (of : Module) (text : List ℕ) → (Refused ≡ Success) × (text ≡ ok_line) → ⊥
+verify_never of text given = let wrong = given.0 in cc
+
+run_never : (fate : Ending) → IsStatusOfFate fate Refused → ⊥
+run_never Ended is = cc
+run_never ending.Asked is = cc
+run_never ending.Turning is = cc
+run_never Stuck is = is
+
+passes_it : (command : Command) (input out err : Change) (status : Status) → AreApart → TakesModule command → IsAnswer (Some command) input out err status
+    → (bytes : List ℕ) (m : Module) → input.before ≡ Some bytes → IsPassing bytes m → status ≢ Refused
+passes_it Verify input out err status apart OfVerify answer bytes m same passing is =
+    let due = due_of Verify input out err status bytes answer same (settled_as status Refused is (λ h. cc) (λ h. cc) (λ h. cc)) in
+    module_accepts (λ m s text. (s ≡ Success) × (text ≡ ok_line)) bytes status due.0 m apart (λ of. verify_never of (due.0).out) due.1 passing is
+passes_it (Run outcomes turns) input out err status apart (OfRun outcomes' turns') answer bytes m same passing is =
+    let due = due_of (Run outcomes turns) input out err status bytes answer same (settled_as status Refused is (λ h. cc) (λ h. cc) (λ h. cc)) in
+    module_accepts (λ m s text. IsShownRun m.labels (machine_run m outcomes turns) s text) bytes status due.0 m apart (λ of given. run_never (machine_run of outcomes turns).fate given.0) due.1 passing is
+passes_it Compile input out err status apart takes answer bytes m same passing is = elim takes [ ]
+passes_it Check input out err status apart takes answer bytes m same passing is = elim takes [ ]
+
+breaks_it : (command : Command) (input out err : Change) (status : Status) → AreApart → TakesModule command → IsAnswer (Some command) input out err status
+    → (bytes line : List ℕ) → input.before ≡ Some bytes → IsQirRefused bytes line → IsShownStatus status → IsDueStatus status → ⊥
+breaks_it Verify input out err status apart OfVerify answer bytes line same refused shown settles =
+    let due = due_of Verify input out err status bytes answer same settles in
+    module_refuses (λ m s text. (s ≡ Success) × (text ≡ ok_line)) bytes status due.0 line apart due.1 refused shown
+breaks_it (Run outcomes turns) input out err status apart (OfRun outcomes' turns') answer bytes line same refused shown settles =
+    let due = due_of (Run outcomes turns) input out err status bytes answer same settles in
+    module_refuses (λ m s text. IsShownRun m.labels (machine_run m outcomes turns) s text) bytes status due.0 line apart due.1 refused shown
+breaks_it Compile input out err status apart takes answer bytes line same refused shown settles = elim takes [ ]
+breaks_it Check input out err status apart takes answer bytes line same refused shown settles = elim takes [ ]
+
+shown_settles : (status : Status) → IsShownStatus status → IsDueStatus status
+shown_settles status IsSuccess = ((λ h. cc), (λ h. cc), (λ h. cc))
+shown_settles status IsAsked = ((λ h. cc), (λ h. cc), (λ h. cc))
+shown_settles status IsTurning = ((λ h. cc), (λ h. cc), (λ h. cc))
+
+-- ---- the same of the words, and of the number of the status
+
+number_refused : (status : Status) → code_of status ≡ 1 → status ≡ Refused
+number_refused Success e = absurd (omega (arith, e))
+number_refused Refused e = refl
+number_refused BadWords e = absurd (omega (arith, e))
+number_refused ReadFault e = absurd (omega (arith, e))
+number_refused WriteFault e = absurd (omega (arith, e))
+number_refused OutOfMemory e = absurd (omega (arith, e))
+number_refused Asked e = absurd (omega (arith, e))
+number_refused Turning e = absurd (omega (arith, e))
+
+number_success : (status : Status) → code_of status ≡ 0 → status ≡ Success
+number_success Success e = refl
+number_success Refused e = absurd (omega (arith, e))
+number_success BadWords e = absurd (omega (arith, e))
+number_success ReadFault e = absurd (omega (arith, e))
+number_success WriteFault e = absurd (omega (arith, e))
+number_success OutOfMemory e = absurd (omega (arith, e))
+number_success Asked e = absurd (omega (arith, e))
+number_success Turning e = absurd (omega (arith, e))
+
+number_asked : (status : Status) → code_of status ≡ 7 → status ≡ Asked
+number_asked Success e = absurd (omega (arith, e))
+number_asked Refused e = absurd (omega (arith, e))
+number_asked BadWords e = absurd (omega (arith, e))
+number_asked ReadFault e = absurd (omega (arith, e))
+number_asked WriteFault e = absurd (omega (arith, e))
+number_asked OutOfMemory e = absurd (omega (arith, e))
+number_asked Asked e = refl
+number_asked Turning e = absurd (omega (arith, e))
+
+number_turning : (status : Status) → code_of status ≡ 8 → status ≡ Turning
+number_turning Success e = absurd (omega (arith, e))
+number_turning Refused e = absurd (omega (arith, e))
+number_turning BadWords e = absurd (omega (arith, e))
+number_turning ReadFault e = absurd (omega (arith, e))
+number_turning WriteFault e = absurd (omega (arith, e))
+number_turning OutOfMemory e = absurd (omega (arith, e))
+number_turning Asked e = absurd (omega (arith, e))
+number_turning Turning e = refl
+
+answer_to : (words : Option Command) (command : Command) (input out err : Change) (status : Status) → IsAnswer words input out err status → words ≡ Some command → IsAnswer (Some command) input out err status
+answer_to words command input out err status answer is = subst (λ (w : Option Command). IsAnswer w input out err status) is answer
+
+pub accepts : (words : Option Command) (command : Command) (input out err : Change) (status : Status) → IsAnswer words input out err status → words ≡ Some command → TakesSource command
     → (bytes : List ℕ) → input.before ≡ Some bytes → IsThinText bytes → code_of status ≢ 1
-accepts None input out err status answer bytes same thin is =
-    not_told BadWords status Refused answer.statuses (λ h. cc) (λ h. cc) (code_refused status is)
-accepts (Some command) input out err status answer bytes same thin is =
-    accepts_it command input out err status answer bytes same thin (code_refused status is)
+accepts words command input out err status answer is takes bytes same thin one =
+    accepts_it command input out err status takes (answer_to words command input out err status answer is) bytes same thin (number_refused status one)
 
-pub refuses : (command : Option Command) (input out err : Change) (status : Status) → IsAnswer command input out err status
+pub refuses : (words : Option Command) (command : Command) (input out err : Change) (status : Status) → IsAnswer words input out err status → words ≡ Some command → TakesSource command
     → (bytes : List ℕ) (refusal : Refusal) → input.before ≡ Some bytes → IsRefused bytes refusal → code_of status ≢ 0
-refuses None input out err status answer bytes refusal same refused is =
-    not_told BadWords status Success answer.statuses (λ h. cc) (λ h. cc) (code_success status is)
-refuses (Some command) input out err status answer bytes refusal same refused is =
-    refuses_it command input out err status answer bytes refusal same refused (code_success status is)
+refuses words command input out err status answer is takes bytes refusal same refused none =
+    refuses_it command input out err status takes (answer_to words command input out err status answer is) bytes refusal same refused (number_success status none)
+
+pub passes : (words : Option Command) (command : Command) (input out err : Change) (status : Status) → AreApart → IsAnswer words input out err status → words ≡ Some command → TakesModule command
+    → (bytes : List ℕ) (m : Module) → input.before ≡ Some bytes → IsPassing bytes m → code_of status ≢ 1
+passes words command input out err status apart answer is takes bytes m same passing one =
+    passes_it command input out err status apart takes (answer_to words command input out err status answer is) bytes m same passing (number_refused status one)
+
+-- a status that is shown comes of no text that is refused
+shown_never : (words : Option Command) (command : Command) (input out err : Change) (status other : Status) → AreApart → IsAnswer words input out err status → words ≡ Some command → TakesModule command
+    → (bytes line : List ℕ) → input.before ≡ Some bytes → IsQirRefused bytes line → IsShownStatus other → status ≡ other → ⊥
+shown_never words command input out err status other apart answer is takes bytes line same refused shown e =
+    let here = subst IsShownStatus (sym e) shown in
+    breaks_it command input out err status apart takes (answer_to words command input out err status answer is) bytes line same refused here (shown_settles status here)
+
+pub breaks : (words : Option Command) (command : Command) (input out err : Change) (status : Status) → AreApart → IsAnswer words input out err status → words ≡ Some command → TakesModule command
+    → (bytes line : List ℕ) → input.before ≡ Some bytes → IsQirRefused bytes line → (code_of status ≢ 0) × (code_of status ≢ 7) × (code_of status ≢ 8)
+breaks words command input out err status apart answer is takes bytes line same refused = (
+  λ e. shown_never words command input out err status Success apart answer is takes bytes line same refused IsSuccess (number_success status e),
+  λ e. shown_never words command input out err status Asked apart answer is takes bytes line same refused IsAsked (number_asked status e),
+  λ e. shown_never words command input out err status Turning apart answer is takes bytes line same refused IsTurning (number_turning status e),
+)

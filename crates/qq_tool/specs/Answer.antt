@@ -2,11 +2,9 @@
 use Rattle.std.specs.Prelude.{ℕ, ◌≡◌, ◌≢◌, ◌<◌, ◌≤◌, ◌⊎◌, List, [], ◌++◌, length, Option, Some, None, IsSome}
 use Rattle.std.specs.Io.KnownBytes.{Appends, Keeps}
 use Rattle.qq_streams.specs.Faults.{HasRisen}
-use Rattle.qq_tool.specs.declared.command.Command.{Command}
-use Rattle.qq_tool.specs.declared.command.Command.TheVariants.{Compile, Check}
 use Rattle.qq_tool.specs.declared.status.Status.{Status}
-use Rattle.qq_tool.specs.declared.status.Status.TheVariants.{Success, Refused, BadWords, ReadFault, WriteFault, OutOfMemory}
-use Rattle.qq_tool.specs.Command.{input_limit}
+use Rattle.qq_tool.specs.declared.status.Status.TheVariants.{Success, Refused, BadWords, ReadFault, WriteFault, OutOfMemory, Asked, Turning}
+use Rattle.qq_tool.specs.Command.{Command, Run, input_limit}
 use Rattle.qq_tool.specs.Due.{Texts, Due}
 
 -- ---- what a call does to a stream
@@ -48,6 +46,12 @@ pub record IsRead (most : ℕ) (bytes : List ℕ) (left : Option (List ℕ)) : T
 abbrev pub IsDueStatus : Status → Type 0
 IsDueStatus status = (status ≢ ReadFault) × (status ≢ WriteFault) × (status ≢ OutOfMemory)
 
+-- the statuses of a command whose text for `out` was written, whole
+pub data IsShownStatus : Status → Type 0 where
+  IsSuccess : IsShownStatus Success
+  IsAsked : IsShownStatus Asked
+  IsTurning : IsShownStatus Turning
+
 -- What was written, where `due` says which status goes with which texts.
 pub record Tells (due : Status → Texts → Type 0) (out err : Change) (status : Status) : Type 0 where
   -- what is due was written, whole
@@ -57,9 +61,9 @@ pub record Tells (due : Status → Texts → Type 0) (out err : Change) (status 
 
 -- What holds of the sinks whatever was due.
 pub record Writes (out err : Change) (status : Status) : Type 0 where
-  -- a refusal leaves `out` as it was, and a success leaves `err`
+  -- a refusal leaves `out` as it was, and a success or a run that was shown leaves `err`
   pub refused : status ≡ Refused → AddsNothing out
-  pub succeeded : status ≡ Success → AddsNothing err
+  pub succeeded : IsShownStatus status → AddsNothing err
   -- a write fault comes only where a count of faults rose
   pub write_fault : status ≡ WriteFault → IsFaulty out ⊎ IsFaulty err
   -- behind a read fault and for want of memory nothing was written
@@ -73,11 +77,12 @@ IsReading command = IsSome (input_limit command)
 abbrev pub IsInput : Option Command → Option (List ℕ) → List ℕ → Type 0
 IsInput command left bytes = IsReading command → left ≡ Some bytes
 
--- Words that are no command have only their own status or that of a write fault, and no command has theirs.
+-- Words that are no command have only their own status or that of a write fault, and no command has theirs. Only a
+-- run is asked or turning.
 abbrev pub IsStatusOf : Option Command → Status → Type 0
 IsStatusOf None status = (status ≡ BadWords) ⊎ (status ≡ WriteFault)
-IsStatusOf (Some Compile) status = status ≢ BadWords
-IsStatusOf (Some Check) status = status ≢ BadWords
+IsStatusOf (Some (Run outcomes turns)) status = status ≢ BadWords
+IsStatusOf (Some _) status = (status ≢ BadWords) × (status ≢ Asked) × (status ≢ Turning)
 
 -- The answer of the top call to a command. Where a stream does not tell its bytes, nothing is said of them,
 -- and the rest stands.

@@ -2,10 +2,16 @@ pub mod Answer
 pub mod Command
 pub mod Compiled
 pub mod Due
+pub mod Headline
 pub mod Laws
 pub mod Lowered
+pub mod Playing
+pub mod QirRefused
 pub mod Reading
 pub mod Refused
 pub mod Status
+pub mod Tasks
 pub mod Thin
 pub mod ThinRun
+pub mod Told
+pub mod Verdict

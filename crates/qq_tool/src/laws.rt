@@ -6,12 +6,15 @@ ghost use Rattle.qir_module.specs.Module.{Module};
 ghost use Rattle.qq_base.specs.declared.refusal.Refusal.{Refusal};
 ghost use Rattle.qq_tool.specs.Compiled.{Implements};
 ghost use Rattle.qq_tool.specs.Laws.{EndedRunsStay, UnfinishedRunsGoOn};
+ghost use Rattle.qq_tool.specs.QirRefused.{AreApart, IsQirDecided};
 ghost use Rattle.qq_tool.specs.Refused.{IsRefused, IsProgramText, IsDecided};
 ghost use Rattle.qq_tool.specs.ThinRun.{source_run};
 ghost use Rattle.qq_tool.specs.Thin.{Thin, Spells, IsThinText};
 
+use profile_check::passes_or_is_broken;
 use qasm_grammar::answers_are_right;
 use qasm_lexer::{MOST_BYTES, texts_have_a_reading};
+use qir_lexer::{texts_are_answered, texts_have_one_answer};
 
 /// Each list of bytes is accepted, or refused by one rule at one place, and not both.
 pub fn texts_are_decided(bytes: &[u8])
@@ -62,3 +65,20 @@ pub fn ended_module_runs_stay()
 pub fn unfinished_module_runs_go_on()
     ensures { (p : Thin) (m : Module) → Implements m p → UnfinishedRunsGoOn (machine_run m) }
 {}
+
+/// No QIR text passes and is refused.
+pub fn passing_texts_are_not_refused()
+    ensures { AreApart }
+{
+    texts_have_one_answer();
+    passes_or_is_broken();
+}
+
+/// Each QIR text is that of a module that passes, or is refused by one line, and not both.
+pub fn qir_texts_are_decided()
+    ensures { (bytes : List ℕ) → IsQirDecided bytes }
+{
+    texts_are_answered();
+    texts_have_one_answer();
+    passes_or_is_broken();
+}

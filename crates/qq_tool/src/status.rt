@@ -18,6 +18,10 @@ pub enum Status {
     WriteFault = 4,
     /// There was no memory.
     OutOfMemory = 5,
+    /// The run that was shown stands before a measurement for which no outcome is left.
+    Asked = 7,
+    /// The run that was shown stands at the end of a loop's body, with no turn left.
+    Turning = 8,
 }
 
 impl Status {

@@ -93,6 +93,72 @@ attributes #1 = { "irreversible" }
 !3 = !{i32 1, !"dynamic_result_management", i1 false}
 "#;
 
+/// A qubit, turned and measured.
+const MEASURED: &str = r#"@0 = internal constant [2 x i8] c"c\00"
+
+define i64 @main() #0 {
+b0:
+  call void @__quantum__rt__initialize(ptr null)
+  call void @__quantum__qis__h__body(ptr null)
+  call void @__quantum__qis__mz__body(ptr null, ptr null)
+  %r0 = call i1 @__quantum__rt__read_result(ptr null)
+  call void @__quantum__rt__bool_record_output(i1 %r0, ptr @0)
+  ret i64 0
+}
+
+declare void @__quantum__rt__initialize(ptr)
+declare i1 @__quantum__rt__read_result(ptr)
+declare void @__quantum__rt__bool_record_output(i1, ptr)
+declare void @__quantum__qis__mz__body(ptr, ptr) #1
+declare void @__quantum__qis__h__body(ptr)
+
+attributes #0 = { "entry_point" "qir_profiles"="adaptive_profile" "output_labeling_schema"="labeled" "required_num_qubits"="1" "required_num_results"="1" }
+attributes #1 = { "irreversible" }
+
+!llvm.module.flags = !{!0, !1, !2, !3}
+
+!0 = !{i32 1, !"qir_major_version", i32 2}
+!1 = !{i32 7, !"qir_minor_version", i32 0}
+!2 = !{i32 1, !"dynamic_qubit_management", i1 false}
+!3 = !{i32 1, !"dynamic_result_management", i1 false}
+"#;
+
+/// Two numbers change places for each outcome of 1, and the first is recorded at an outcome of 0.
+const LOOPING: &str = r#"@0 = internal constant [2 x i8] c"c\00"
+
+define i64 @main() #0 {
+b0:
+  call void @__quantum__rt__initialize(ptr null)
+  br label %b1
+b1:
+  %r0 = phi i64 [ 1, %b0 ], [ %r1, %b2 ]
+  %r1 = phi i64 [ 2, %b0 ], [ %r0, %b2 ]
+  call void @__quantum__qis__mz__body(ptr null, ptr null)
+  %r2 = call i1 @__quantum__rt__read_result(ptr null)
+  br i1 %r2, label %b2, label %b3
+b2:
+  br label %b1
+b3:
+  call void @__quantum__rt__int_record_output(i64 %r0, ptr @0)
+  ret i64 0
+}
+
+declare void @__quantum__rt__initialize(ptr)
+declare i1 @__quantum__rt__read_result(ptr)
+declare void @__quantum__rt__int_record_output(i64, ptr)
+declare void @__quantum__qis__mz__body(ptr, ptr) #1
+
+attributes #0 = { "entry_point" "qir_profiles"="adaptive_profile" "output_labeling_schema"="labeled" "required_num_qubits"="1" "required_num_results"="1" }
+attributes #1 = { "irreversible" }
+
+!llvm.module.flags = !{!0, !1, !2, !3}
+
+!0 = !{i32 1, !"qir_major_version", i32 2}
+!1 = !{i32 7, !"qir_minor_version", i32 0}
+!2 = !{i32 1, !"dynamic_qubit_management", i1 false}
+!3 = !{i32 1, !"dynamic_result_management", i1 false}
+"#;
+
 const NOT_BUILT: &str = "refused Q00 NotBuilt at 1:1\n";
 
 /// The text that a word of a table stands for.
@@ -102,17 +168,26 @@ fn text_of(word: &str) -> &'static str {
         "bell_pair_qir" => BELL_PAIR_QIR,
         "nothing_done" => NOTHING_DONE,
         "nothing_done_qir" => NOTHING_DONE_QIR,
+        "measured" => MEASURED,
+        "looping" => LOOPING,
+        "measured_once" => "gate h 0\nmeasure 0 = 1\nbool c 1\nfate ended\n",
+        "not_measured" => "gate h 0\nfate asked\n",
+        "two_turns" => "measure 0 = 1\nmeasure 0 = 1\nmeasure 0 = 0\nint c 1\nfate ended\n",
+        "no_turn_left" => "measure 0 = 1\nmeasure 0 = 1\nfate turning\n",
         "one_qubit" => "qubit q;\n",
         "question_mark" => "?",
         "ok" => "ok\n",
         "bad_words" => "bad words\n",
         "not_built" => NOT_BUILT,
         "bad_character" => "refused Q03 BadCharacter at 1:1\n",
+        "point" => "refused N02 BadCharacter at 1:11\n",
+        "end_of_nothing" => "refused N05 Syntax at 1:1\n",
         _ => "",
     }
 }
 
-/// What is answered: the command, the input, the status, and the texts on `out` and on `err`.
+/// What is answered: the words with a slash between each two, the input, the status, and the texts on `out` and on
+/// `err`.
 const ANSWERS: &str = "\
 compile bell_pair 0 bell_pair_qir nothing
 compile nothing_done 0 nothing_done_qir nothing
@@ -121,7 +196,33 @@ compile one_qubit 1 nothing not_built
 check bell_pair 0 ok nothing
 check nothing_done 0 ok nothing
 check nothing 1 nothing not_built
-verify bell_pair 2 nothing bad_words";
+verify bell_pair_qir 0 ok nothing
+verify measured 0 ok nothing
+verify looping 0 ok nothing
+verify bell_pair 1 nothing point
+verify nothing 1 nothing end_of_nothing
+run/1/0 measured 0 measured_once nothing
+run/-/0 measured 7 not_measured nothing
+run/110/2 looping 0 two_turns nothing
+run/11/1 looping 8 no_turn_left nothing
+run/11/1 bell_pair 1 nothing point
+run/11/1000000 nothing 1 nothing end_of_nothing
+run/012/5 measured 2 nothing bad_words
+run//5 measured 2 nothing bad_words
+run/--/5 measured 2 nothing bad_words
+run/01/-1 measured 2 nothing bad_words
+run/01/+1 measured 2 nothing bad_words
+run/01/01 measured 2 nothing bad_words
+run/01/ measured 2 nothing bad_words
+run/01/1000001 measured 2 nothing bad_words
+run/01/4294967296 measured 2 nothing bad_words
+run/01/18446744073709551616 measured 2 nothing bad_words
+run/01 measured 2 nothing bad_words
+run/01/1/1 measured 2 nothing bad_words
+run measured 2 nothing bad_words
+verify/measured measured 2 nothing bad_words
+compile/- measured 2 nothing bad_words
+Run/1/0 measured 2 nothing bad_words";
 
 /// Source texts that are refused by a rule of tokens: the refusal, and the text with `\n` for the end of a line.
 const REFUSED_BY_TOKENS: &str = r#"Q03 BadCharacter at 1:3 <- a ?
@@ -146,7 +247,10 @@ Q00 NotBuilt at 1:1 <- bit π1;"#;
 const READS: &str = "\
 compile bell_pair 2 0
 compile nothing 1 1
-check bell_pair 2 0";
+check bell_pair 2 0
+verify measured 2 0
+run/1/0 measured 2 0
+run/-/0 measured 2 7";
 
 /// Calls of which each write fails in turn: the command, the input, the texts on `out` and on `err`, and how many
 /// bytes a sink takes at once.
@@ -155,6 +259,11 @@ compile bell_pair bell_pair_qir nothing 16
 compile nothing nothing not_built 5
 check bell_pair ok nothing 2
 check question_mark nothing bad_character 5
+verify measured ok nothing 2
+verify bell_pair nothing point 5
+run/110/2 looping two_turns nothing 8
+run/11/1 looping no_turn_left nothing 8
+run/12/1 looping nothing bad_words 3
 no_command nothing nothing bad_words 3";
 
 /// What a call answered and wrote.
@@ -181,9 +290,18 @@ const SOUND: Streams<'static> = Streams {
     piece: 1000,
 };
 
-/// Runs the tool with one word.
-fn run(alloc: Global, word: &str, source: &[u8], streams: &Streams) -> Result<Answer, Fail> {
-    let words = vec![in alloc; String::from_str(alloc, word)?]?;
+/// The words of a command, with a slash between each two.
+fn words_of(alloc: Global, command: &str) -> Result<Vec<String>, Fail> {
+    let mut words = Vec::new(alloc);
+    for word in command.split('/') {
+        words.push(String::from_str(alloc, word)?)?;
+    }
+    Ok(words)
+}
+
+/// Runs the tool with the words of a command.
+fn run(alloc: Global, command: &str, source: &[u8], streams: &Streams) -> Result<Answer, Fail> {
+    let words = words_of(alloc, command)?;
     let mut input = MemorySource::new(source.to_vec(alloc)?, streams.input.to_vec(alloc)?);
     let piece = streams.piece.max(1);
     let mut out = MemorySink::new(alloc, 10_000, piece, streams.out.to_vec(alloc)?)
@@ -215,6 +333,60 @@ fn texts_are_those_written_by_hand(rt: HostRuntime) -> Result<(), Fail> {
         assert_eq!(rt; answer.out.bytes(), out.as_bytes(), "{row}");
         assert_eq!(rt; answer.err.bytes(), err.as_bytes(), "{row}");
     }
+    Ok(())
+}
+
+#[test]
+fn modules_are_refused_by_the_rules_of_the_profile(rt: HostRuntime) -> Result<(), Fail> {
+    let alloc = rt.alloc();
+    // A jump back to the first block.
+    let back = LOOPING.replace(alloc, "b2:\n  br label %b1", "b2:\n  br label %b0")?;
+    // A register that no way to its use assigns.
+    let other = LOOPING.replace(alloc, "phi i64 [ 1, %b0 ]", "phi i64 [ %r2, %b0 ]")?;
+    for command in ["verify", "run/1/1"] {
+        let answer = run(alloc, command, back.as_bytes(), &SOUND)?;
+        assert_eq!(rt; answer.status, 1, "{command}");
+        assert!(rt; answer.out.bytes().is_empty(), "{command}");
+        assert_eq!(rt;
+            answer.err.bytes(),
+            b"refused P10 Targets at block 2 item 0\n".as_slice()
+        );
+        let answer = run(alloc, command, other.as_bytes(), &SOUND)?;
+        assert_eq!(rt; answer.status, 1, "{command}");
+        assert_eq!(rt;
+            answer.err.bytes(),
+            b"refused P12 OperandTypes at block 1 item 0\n".as_slice()
+        );
+    }
+    Ok(())
+}
+
+/// The first 4,096 bytes of a run are written before its end, and a write behind them fails.
+#[test]
+fn a_write_fails_in_mid_run(rt: HostRuntime) -> Result<(), Fail> {
+    let alloc = rt.alloc();
+    let outcomes = copies(alloc, b'1', 400)?;
+    let outcomes = str::from_utf8(&outcomes).ok().ok_or("no text")?;
+    let command = format!(in alloc; "run/{outcomes}/400")?;
+    let mut text = String::new(alloc);
+    for _ in 0..400u32 {
+        text.push_str("measure 0 = 1\n")?;
+    }
+    text.push_str("fate asked\n")?;
+    let whole = Streams {
+        piece: 5000,
+        ..SOUND
+    };
+    let answer = run(alloc, command.as_str(), LOOPING.as_bytes(), &whole)?;
+    assert_eq!(rt; answer.status, 7);
+    assert_eq!(rt; answer.out.bytes(), text.as_bytes());
+    let failing = Streams { out: &[1], ..whole };
+    let answer = run(alloc, command.as_str(), LOOPING.as_bytes(), &failing)?;
+    assert_eq!(rt; answer.status, 4);
+    assert_eq!(rt;
+        answer.out.bytes(),
+        &text.as_bytes()[..text.len().min(4096)]
+    );
     Ok(())
 }
 
