@@ -1,0 +1,4 @@
+pub mod Assigned
+pub mod Needs
+pub mod Phis
+pub mod State

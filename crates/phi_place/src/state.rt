@@ -1,0 +1,19 @@
+//! Where the cells are at the end of a block.
+
+use qir_module::Operand;
+use std::marker::Model;
+
+/// The operands of the cells at the end of a block, or behind the phis of one: one for each cell.
+#[derive(Debug, Drop)]
+pub struct CellState {
+    pub block: u32,
+    pub values: Vec<Operand>,
+}
+
+impl Model for CellState {
+    ghost use Rattle.phi_place.specs.State.{CellState as CellStateValue};
+
+    ghost Value = { CellStateValue };
+
+    ghost view = { λ s. record { block = s.block; values = s.values.items } };
+}
