@@ -1,0 +1,5 @@
+pub mod Collecting
+pub mod Counting
+pub mod Emits
+pub mod Few
+pub mod Registers

@@ -1,0 +1,4 @@
+pub mod Emit
+pub mod Lowered
+pub mod Order
+pub mod Reached

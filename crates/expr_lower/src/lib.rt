@@ -1,0 +1,17 @@
+// Straight instructions for expressions of the core. The expressions that are reached are taken in the order of
+// their numbers, each once: a constant is a fixed operand, a cell is where the state has it, and each
+// other expression is one instruction.
+//
+// It stands on `core_ir` and `qir_module`. The layer above uses the contract of `lower_expr`, whose words stand in
+// `specs/Lowered.antt`, and the laws of `laws`: a block goes on behind straight instructions, and no more expressions are
+// reached than there are.
+#![tactic(auto)]
+
+mod emit;
+pub mod laws;
+mod lower;
+mod reached;
+#[cfg(test)]
+mod tests;
+
+pub use lower::lower_expr;
