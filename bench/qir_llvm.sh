@@ -23,7 +23,8 @@ fi
 folder=$(mktemp -d)
 trap 'rm -rf "$folder"' EXIT
 (cd crates/qir_cases && rt run -- accepted < stdin > "$folder/texts")
-awk -v folder="$folder" '/^####$/ { close(file); file = sprintf("%s/%04d.ll", folder, ++count); next } { print > file }' "$folder/texts"
+# A text may end without a line feed, and then the line behind it begins on its last one.
+awk -v folder="$folder" '/####$/ { if (sub(/####$/, "") && $0 != "") print > file; close(file); file = sprintf("%s/%04d.ll", folder, ++count); next } { print > file }' "$folder/texts"
 accepted=0
 refused=0
 for text in "$folder"/*.ll; do
