@@ -27,7 +27,7 @@ thin_or_not bytes = by_sizes (sizes_at bytes) refl
     by_sizes None e = inr (no_sizes bytes e)
     by_sizes (Some (qubits, bits, rest)) e = by_lines qubits bits rest e (lines_at qubits bits 10000 rest) refl
 
-refused_by : (bytes : List ℕ) (refusal : Refusal) → IsRefused bytes refusal → IsDecided bytes
+pub refused_by : (bytes : List ℕ) (refusal : Refusal) → IsRefused bytes refusal → IsDecided bytes
 refused_by bytes refusal refused = inr (λ thin. not_refused bytes refusal thin refused, refusal, refused, λ other h. refused_once bytes other refusal h refused)
 
 pub long_decided : (bytes : List ℕ) → source_limit < length bytes → IsDecided bytes

@@ -83,7 +83,8 @@ pub fn run_tool<S: Source, O: Sink, E: Sink>(
         → IsSound (change (S.left input.old) (S.left input.new) (S.faults input.old) (S.faults input.new))
         (change (O.taken out.old) (O.taken out.new) (O.faults out.old) (O.faults out.new))
         (change (E.taken err.old) (E.taken err.new) (E.faults err.old) (E.faults err.new)) result
-        → Headline bytes (change (O.taken out.old) (O.taken out.new) (O.faults out.old) (O.faults out.new))
+        → Headline bytes (change (S.left input.old) (S.left input.new) (S.faults input.old) (S.faults input.new))
+        (change (O.taken out.old) (O.taken out.new) (O.faults out.old) (O.faults out.new))
         (change (E.taken err.old) (E.taken err.new) (E.faults err.old) (E.faults err.new)) result }
     // Words that name no command that reads leave the input as it was.
     ensures unread { IsNone (input_limit (command_in (map string_bytes words.now))) → input.new ≡ input.old }
