@@ -1,0 +1,14 @@
+pub mod Bounding
+pub mod Calling
+pub mod Cells
+pub mod Choosing
+pub mod Emitting
+pub mod Flow
+pub mod Holding
+pub mod Looping
+pub mod Moving
+pub mod Ordering
+pub mod Running
+pub mod Sizing
+pub mod Whole
+pub mod Worked
