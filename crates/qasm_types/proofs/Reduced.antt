@@ -11,7 +11,7 @@ use Rattle.word_arith.specs.WordTy.{least_value, greatest_value, value_modulo}
 use Rattle.angle_arith.specs.Fraction.{parts_of}
 use Rattle.qasm_types.specs.declared.ty.Ty.{Ty}
 use Rattle.qasm_types.specs.declared.ty.Ty.TheVariants as t
-use Rattle.qasm_types.specs.Types.{IsConstant}
+use Rattle.qasm_types.specs.Types.{IsWholeConstant}
 use Rattle.qasm_types.specs.Values.{Value, Register, Number, Count, Units, PartOfPi, IsValueOf, number_of, bits_of, is_constant, reduced_to, whole_of, count_at, cast, taken}
 use Rattle.qasm_types.proofs.Choices.{some_is}
 
@@ -58,7 +58,7 @@ length-bits_of : (n : ℕ) (z : ℤ) → length (bits_of n z) ≡ n
 length-bits_of zero z = refl
 length-bits_of (suc n) z = ap suc (length-bits_of n (int_div_euclid z (pos 2)))
 
-constant_from_test : (z : ℤ) → is_constant z ≡ true → IsConstant z
+constant_from_test : (z : ℤ) → is_constant z ≡ true → IsWholeConstant z
 constant_from_test (pos a) e = (omega (arith, ints), grind (arith, ints))
 constant_from_test (negsuc a) e = (grind (arith, ints), omega (arith, ints))
 

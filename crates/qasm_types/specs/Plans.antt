@@ -1,4 +1,5 @@
--- Serves private contracts alone: what each function of the code decides, type by type.
+-- The two tables as functions that go type by type, by which definitions that compute ask them. That they answer the rows of
+-- `Casts` and `Operators`, and no others, is said by the contracts of `cast_of`, `operator_type` and `unary_type`.
 use Rattle.std.specs.Prelude.{ℕ, Bool, true, false, max, nat_eq, nat_le, int_le, int_lt, ◌&&◌, ◌||◌, ◌^◌, if◌then◌else◌, ℤ, pos, Option, Some, None}
 use Rattle.std.specs.Option.{option_map, option_or}
 use Rattle.qasm_ast.specs.declared.expr.UnaryOp.{UnaryOp}

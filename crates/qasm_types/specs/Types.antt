@@ -22,8 +22,8 @@ abbrev pub IsType : Ty → Type 0
 IsType ty = (1 ≤ width_of ty) × (width_of ty ≤ greatest_width ty)
 
 -- a whole constant
-abbrev pub IsConstant : ℤ → Type 0
-IsConstant v = (neg_ℤ (pos (2 ^ 63)) ≤ℤ v) × (v <ℤ pos (2 ^ 64))
+abbrev pub IsWholeConstant : ℤ → Type 0
+IsWholeConstant v = (neg_ℤ (pos (2 ^ 63)) ≤ℤ v) × (v <ℤ pos (2 ^ 64))
 
 -- the cells of a variable: one for each bit of a register of bits, else one
 abbrev pub cells_of : Ty → ℕ

@@ -13,7 +13,7 @@ use Rattle.angle_arith.specs.Fraction.{Fraction, IsLowestTerms, negative_of, sum
 use Rattle.angle_arith.specs.Lowest.{in_lowest_terms, is_small}
 use Rattle.qasm_types.specs.declared.ty.Ty.{Ty}
 use Rattle.qasm_types.specs.declared.ty.Ty.TheVariants as t
-use Rattle.qasm_types.specs.Types.{IsConstant}
+use Rattle.qasm_types.specs.Types.{IsWholeConstant}
 
 -- a value
 pub data Value : Type 0 where
@@ -39,7 +39,7 @@ IsValueOf (t.Int n) (Number z) = (least_value true n ≤ℤ z) × (z ≤ℤ grea
 IsValueOf (t.Uint n) (Number z) = (least_value false n ≤ℤ z) × (z ≤ℤ greatest_value false n)
 IsValueOf (t.Angle n) (Count c) = c < 2 ^ n
 IsValueOf t.Turn (Units z) = (least_value true 64 ≤ℤ z) × (z ≤ℤ greatest_value true 64)
-IsValueOf t.Whole (Number z) = IsConstant z
+IsValueOf t.Whole (Number z) = IsWholeConstant z
 IsValueOf t.Pi (PartOfPi p) = IsLowestTerms p
 IsValueOf _ _ = ⊥
 

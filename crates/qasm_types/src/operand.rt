@@ -1,6 +1,6 @@
 // What stands at an operator's sides, and the types at which it is taken.
 ghost use Rattle.std.specs.Prelude.{◌≡◌, ◌≤◌};
-ghost use Rattle.qasm_types.specs.Types.{IsType, IsConstant};
+ghost use Rattle.qasm_types.specs.Types.{IsType, IsWholeConstant};
 ghost use Rattle.qasm_types.specs.declared.ty.Ty.TheVariants.{Whole, Uint};
 
 use crate::ty::Ty;
@@ -12,7 +12,7 @@ pub struct Operand {
     /// The value of a whole constant, from -2^63 to 2^64 - 1. It is not read where the type is another.
     pub whole: i128,
     ghost is_type: { IsType ty },
-    ghost is_constant: { ty ≡ Whole → IsConstant whole },
+    ghost is_constant: { ty ≡ Whole → IsWholeConstant whole },
 }
 
 /// The types at which an operator takes its operands, and the type of its result.
