@@ -14,7 +14,9 @@
 //!   (`redeclared`);
 //! - of `Scopes::open` and `Scopes::close`, the list with one scope more or less;
 //! - the laws `declarations_are_found`, `unknown_names_are_nowhere` (nothing is found exactly where no scope has
-//!   the name), `scopes_are_restored` and `values_are_mapped`.
+//!   the name), `scopes_are_restored` and `values_are_mapped`;
+//! - of `specs/OpenScopes.antt`, the open scopes of a program in the form in which the definitions of its walk and its run
+//!   have them, with the laws `new_names_are_found`, `bodies_are_left` and `things_are_mapped`.
 #![tactic(auto)]
 
 mod laws;
@@ -24,7 +26,8 @@ mod scopes;
 mod tests;
 
 pub use laws::{
-    declarations_are_found, scopes_are_restored, unknown_names_are_nowhere, values_are_mapped,
+    bodies_are_left, declarations_are_found, new_names_are_found, scopes_are_restored,
+    things_are_mapped, unknown_names_are_nowhere, values_are_mapped,
 };
 pub use scope::DeclareFault;
 pub use scopes::Scopes;
