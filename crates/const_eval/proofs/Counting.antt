@@ -12,7 +12,7 @@ use Rattle.std.proofs.lemmas.Nat.{pow-add, pow_pos, div_below, div-mul-add, div-
 use Rattle.std.proofs.Math.Pow.{pow_mono}
 use Rattle.angle_arith.specs.Fraction.{Fraction, IsWhole, IsReducedCount, parts_of}
 use Rattle.qasm_types.specs.Plans.{casts}
-use Rattle.qasm_types.specs.Types.{IsConstant}
+use Rattle.qasm_types.specs.Types.{IsWholeConstant}
 use Rattle.qasm_types.specs.Values.{Count, Number, cast, number_of, number_of_bits, reduced_to, whole_of}
 use Rattle.qasm_types.specs.declared.ty.Ty.{Ty}
 use Rattle.qasm_types.specs.declared.ty.Ty.TheVariants as t
@@ -26,7 +26,7 @@ use Rattle.const_eval.proofs.BitNumbers.{count_of_bits}
 
 -- ---- casts to the types other than `bool` and angles
 
-reduced-constant : (z : ℤ) → IsConstant z → reduced_to t.Whole z ≡ Some (Number z)
+reduced-constant : (z : ℤ) → IsWholeConstant z → reduced_to t.Whole z ≡ Some (Number z)
 reduced-constant z h = grind (arith, ints)
 
 pub cast-reduced : (k : Const) (ty : Ty) (z r : ℤ) → casts (constant_of k).type (whole_in (constant_of k)) ty ≡ true → is_numbered ty ≡ true
@@ -49,7 +49,7 @@ cast-reduced (c.Angle w) (t.Uint n) z r row numbered other far e h = (ap (reduce
 cast-reduced (c.Pi w) (t.Uint n) z r row numbered other far e h = (ap (reduced_to (t.Uint n)) (sym e) ∙ h.0, h.1)
 cast-reduced (c.Whole w) t.Whole z r row numbered other far e h =
     let same : r ≡ w.number = h.0 ∙ e in
-    (reduced-constant w.number (subst (λ (x : ℤ). IsConstant x) same h.1) ∙ ap (λ x. Some (Number x)) (sym same), h.1)
+    (reduced-constant w.number (subst (λ (x : ℤ). IsWholeConstant x) same h.1) ∙ ap (λ x. Some (Number x)) (sym same), h.1)
 cast-reduced (c.Bool w) t.Whole z r row numbered other far e h = absurd (false≢true row)
 cast-reduced (c.Bits w) t.Whole z r row numbered other far e h = absurd (false≢true row)
 cast-reduced (c.Angle w) t.Whole z r row numbered other far e h = absurd (false≢true row)
@@ -60,11 +60,11 @@ cast-reduced k (t.Bits n) z r row numbered other far e h = absurd (false≢true 
 cast-reduced k t.Turn z r row numbered other far e h = absurd (false≢true numbered)
 cast-reduced k t.Pi z r row numbered other far e h = absurd (false≢true numbered)
 
-pub kept_number : (ty : Ty) (z r : ℤ) → (ty ≡ t.Bit → ⊥) → ((n : ℕ) → ty ≡ t.Int n → ⊥) → ((n : ℕ) → ty ≡ t.Uint n → ⊥) → r ≡ z → IsConstant z → IsReducedNumber ty z r
+pub kept_number : (ty : Ty) (z r : ℤ) → (ty ≡ t.Bit → ⊥) → ((n : ℕ) → ty ≡ t.Int n → ⊥) → ((n : ℕ) → ty ≡ t.Uint n → ⊥) → r ≡ z → IsWholeConstant z → IsReducedNumber ty z r
 kept_number t.Bit z r bit int uint e h = absurd (bit refl)
 kept_number (t.Int n) z r bit int uint e h = absurd (int n refl)
 kept_number (t.Uint n) z r bit int uint e h = absurd (uint n refl)
-kept_number t.Whole z r bit int uint e h = (e, subst (λ (x : ℤ). IsConstant x) (sym e) h)
+kept_number t.Whole z r bit int uint e h = (e, subst (λ (x : ℤ). IsWholeConstant x) (sym e) h)
 kept_number t.Bool z r bit int uint e h = tt
 kept_number (t.Angle n) z r bit int uint e h = tt
 kept_number (t.Bits n) z r bit int uint e h = tt

@@ -9,3 +9,4 @@ pub mod RegisterRows
 pub mod Registers
 pub mod RowsOfConstants
 pub mod Walking
+pub mod WalkLaws

@@ -17,7 +17,7 @@ use Rattle.angle_arith.specs.declared.fraction.AngleRefusal.TheVariants.{Divide,
 use Rattle.qasm_types.specs.Operators.{group_of, Group, Product, Equality, Order}
 use Rattle.qasm_types.specs.Plans.{casts}
 use Rattle.qasm_types.specs.Values.{Value, Number, PartOfPi, is_constant, part_in_range, reduced_to, result_on_parts}
-use Rattle.qasm_types.specs.Types.{IsConstant}
+use Rattle.qasm_types.specs.Types.{IsWholeConstant}
 use Rattle.qasm_types.specs.declared.ty.Ty.{Ty}
 use Rattle.qasm_types.specs.declared.ty.Ty.TheVariants as t
 use Rattle.const_eval.specs.declared.constant.WholeNumber.{WholeNumber}
@@ -69,7 +69,7 @@ where_constant : (b : Bool) (z : ℤ) → b ≡ true → cond b (Some (Number z)
 where_constant true z e = refl
 where_constant false z e = absurd cc
 
-constant_test : (z : ℤ) → IsConstant z → is_constant z ≡ true
+constant_test : (z : ℤ) → IsWholeConstant z → is_constant z ≡ true
 constant_test z range = grind (arith, ints, range)
 
 -- ---- denominators

@@ -8,7 +8,7 @@ use Rattle.std.proofs.lemmas.Bool.{cases_lt}
 use Rattle.std.proofs.Math.Pow.{pow_mono}
 use Rattle.std.proofs.lemmas.Int.{ints, unsigned_abs-mul}
 use borrow.Author.Differences.{up, down}
-use Rattle.qasm_types.specs.Types.{IsConstant}
+use Rattle.qasm_types.specs.Types.{IsWholeConstant}
 use Rattle.qasm_types.specs.Values.{power, where_amount}
 use Rattle.const_eval.specs.Numbered.{in_range}
 
@@ -22,13 +22,13 @@ use Rattle.const_eval.specs.Numbered.{in_range}
     let f4 = ap (λ x. down a * x) e2 in
     omega (arith, ints)
 
-pub in_range-constant : (z : ℤ) → IsConstant z → in_range z ≡ Some z
+pub in_range-constant : (z : ℤ) → IsWholeConstant z → in_range z ≡ Some z
 in_range-constant z h = grind (arith, ints)
 
 pub in_range-beyond : (z : ℤ) → 2 ^ 64 ≤ unsigned_abs z → in_range z ≡ None
 in_range-beyond z h = grind (arith, ints)
 
-pub constant_cases : (z : ℤ) → (in_range z ≡ Some z × IsConstant z) ⊎ (in_range z ≡ None × 2 ^ 63 < unsigned_abs z)
+pub constant_cases : (z : ℤ) → (in_range z ≡ Some z × IsWholeConstant z) ⊎ (in_range z ≡ None × 2 ^ 63 < unsigned_abs z)
 constant_cases z = grind (arith, ints)
 
 pub unsigned_abs-power : (x : ℤ) (n : ℕ) → unsigned_abs (power x n) ≡ unsigned_abs x ^ n
@@ -120,7 +120,7 @@ where_amount-beyond x amount h l =
     ap (λ b. option_and_then in_range (cond b None (Some (x *ℤ pos (2 ^ unsigned_abs amount))))) e ∙ shifted_beyond x (unsigned_abs amount) h (omega (arith, ints))
 
 -- a shift to the right by 64 and more leaves what one by 64 leaves
-pub shifted_right-most : (x : ℤ) (k : ℕ) → IsConstant x → 64 ≤ k → int_div_euclid x (pos (2 ^ 64)) ≡ int_div_euclid x (pos (2 ^ k))
+pub shifted_right-most : (x : ℤ) (k : ℕ) → IsWholeConstant x → 64 ≤ k → int_div_euclid x (pos (2 ^ 64)) ≡ int_div_euclid x (pos (2 ^ k))
 shifted_right-most (pos m) k h l = ap pos (sym (shifted_out m k 64 (omega (arith, ints, h.1)) l))
 shifted_right-most (negsuc m) k h l = ap negsuc (sym (shifted_out m k 64 (omega (arith, ints, h.0)) l))
 

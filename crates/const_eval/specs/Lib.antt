@@ -14,3 +14,17 @@ pub mod Numbered
 pub mod ConstantRows
 pub mod Registered
 pub mod Parted
+pub mod Walk
+pub mod Nodes
+pub mod ConstantWalk
+pub mod Things
+pub mod Selecting
+pub mod Typed
+pub mod ExprWalk
+pub mod Operands
+pub mod ConstantPlaces
+pub mod Ranges
+pub mod Binding
+pub mod Values
+pub mod WalkLaws
+pub mod ExpressionRows

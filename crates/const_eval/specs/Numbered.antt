@@ -5,7 +5,7 @@ use Rattle.std.specs.Ordering.{int_eq}
 use Rattle.qasm_ast.specs.declared.expr.BinaryOp.{BinaryOp}
 use Rattle.qasm_types.specs.declared.ty.Ty.{Ty}
 use Rattle.qasm_types.specs.declared.ty.Ty.TheVariants as t
-use Rattle.qasm_types.specs.Types.{IsConstant}
+use Rattle.qasm_types.specs.Types.{IsWholeConstant}
 use Rattle.qasm_types.specs.Values.{Value, Truth, Number, Count, is_constant, reduced_to, result_on_numbers, test_on_numbers}
 use Rattle.const_eval.specs.declared.constant.Const.{Const}
 use Rattle.const_eval.specs.declared.constant.Const.TheVariants as c
@@ -29,7 +29,7 @@ abbrev pub IsNumberOf : Ty → ℤ → Type 0
 IsNumberOf t.Bool z = (pos 0 ≤ℤ z) × (z <ℤ pos 2)
 IsNumberOf t.Bit z = (pos 0 ≤ℤ z) × (z <ℤ pos 2)
 IsNumberOf (t.Angle n) z = (pos 0 ≤ℤ z) × (unsigned_abs z < 2 ^ n)
-IsNumberOf _ z = IsConstant z
+IsNumberOf _ z = IsWholeConstant z
 
 -- a register has at most 64 bits
 abbrev pub HasFewBits : Const → Type 0

@@ -1,6 +1,6 @@
 // Constants.
 ghost use Rattle.std.specs.Prelude.{◌^◌, ◌<◌, ◌≤◌, length};
-ghost use Rattle.qasm_types.specs.Types.{IsConstant};
+ghost use Rattle.qasm_types.specs.Types.{IsWholeConstant};
 
 use angle_arith::PiFraction;
 use qasm_ast::BitText;
@@ -9,7 +9,7 @@ use qasm_ast::BitText;
 #[derive(Clone, Copy, Debug, PartialEq, Eq)]
 pub struct WholeNumber {
     pub number: i128,
-    ghost in_range: { IsConstant number },
+    ghost in_range: { IsWholeConstant number },
 }
 
 /// Fewer than 2^32 bits as they are written, the leftmost first. Index 0 is the rightmost.

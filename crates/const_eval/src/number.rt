@@ -5,7 +5,7 @@ ghost use Rattle.std.specs.Option.{option_and_then, option_map};
 ghost use Rattle.angle_arith.specs.Fraction.{parts_of};
 ghost use Rattle.std.specs.Ordering.{int_eq};
 ghost use Rattle.qasm_types.specs.Plans.{casts};
-ghost use Rattle.qasm_types.specs.Types.{IsConstant, IsType};
+ghost use Rattle.qasm_types.specs.Types.{IsWholeConstant, IsType};
 ghost use Rattle.qasm_types.specs.Values.{reduced_to, cast, whole_of, count_at, number_of, number_of_bits as bits_number};
 ghost use Rattle.qasm_types.specs.declared.ty.Ty.TheVariants.{Angle, Whole};
 ghost use Rattle.word_arith.specs.WordTy.{reduced as reduced_word};
@@ -80,7 +80,7 @@ pub(crate) fn number_of_bits(bits: &[bool]) -> u64
 fn number_in(constant: &Const) -> i128
     requires { HasFewBits constant.now }
     ensures number { result ≡ number_of (constant_of constant.now).value }
-    ensures range { IsConstant result }
+    ensures range { IsWholeConstant result }
 {
     match constant {
         Const::Whole(number) => number.number,
@@ -94,7 +94,7 @@ fn number_in(constant: &Const) -> i128
 // A number at a type other than `bool` and that of angles.
 fn reduced(ty: Ty, number: i128) -> i128
     requires is_type { IsType ty }
-    requires range { IsConstant number }
+    requires range { IsWholeConstant number }
     ensures { IsReducedNumber ty number result }
 {
     match ty {
@@ -120,7 +120,7 @@ fn reduced(ty: Ty, number: i128) -> i128
 /// A number at a word type.
 pub(crate) fn word(number: i128, ty: WordTy) -> i128
     ensures value { result ≡ reduced_word ty number }
-    ensures range { IsConstant result }
+    ensures range { IsWholeConstant result }
 {
     value(wrap(number, ty), ty)
 }

@@ -2,7 +2,7 @@
 ghost use Rattle.std.specs.Prelude.{◌≡◌, ◌<◌, ◌≤◌, ◌*◌, ◌^◌, ◌≤ℤ◌, ℕ, true, pos, unsigned_abs, IfSome, Some};
 ghost use Rattle.std.specs.Option.{option_and_then, option_map};
 ghost use Rattle.qasm_types.specs.Operators.{group_of, Bitwise, Shift};
-ghost use Rattle.qasm_types.specs.Types.{IsConstant, IsType};
+ghost use Rattle.qasm_types.specs.Types.{IsWholeConstant, IsType};
 ghost use Rattle.qasm_types.specs.Values.{apply, reduced_to, result_on_numbers};
 ghost use Rattle.qasm_types.specs.declared.ty.Ty.TheVariants.{Angle, Bool};
 ghost use Rattle.const_eval.specs.ConstantRows.{ConstantRow, is_bitwise, is_for_counts};
@@ -102,8 +102,8 @@ fn count_number(op: BinaryOp, width: u32, x: i128, y: i128) -> Option<i128>
     requires counts { is_for_counts (group_of op) ≡ true }
     requires width { width ≤ 32 }
     requires small { unsigned_abs x * unsigned_abs y < 2 ^ 126 }
-    requires constant { IsConstant x }
-    requires divisor { IsConstant y }
+    requires constant { IsWholeConstant x }
+    requires divisor { IsWholeConstant y }
     requires shifted { group_of op ≡ Shift → (pos 0 ≤ℤ x) × (unsigned_abs x < 2 ^ 32) }
     ensures value { applied op (Angle width) x y ≡ option_map (value_for (Angle width)) result }
     ensures stands { IfSome result (IsNumberOf (Angle width)) }
@@ -119,8 +119,8 @@ fn count_number(op: BinaryOp, width: u32, x: i128, y: i128) -> Option<i128>
 fn count_result(op: BinaryOp, x: i128, y: i128) -> Option<i128>
     requires counts { is_for_counts (group_of op) ≡ true }
     requires small { unsigned_abs x * unsigned_abs y < 2 ^ 126 }
-    requires constant { IsConstant x }
-    requires divisor { IsConstant y }
+    requires constant { IsWholeConstant x }
+    requires divisor { IsWholeConstant y }
     requires shifted { group_of op ≡ Shift → (pos 0 ≤ℤ x) × (unsigned_abs x < 2 ^ 32) }
     ensures { (n : ℕ) → n ≤ 32 → option_and_then (reduced_to (Angle n)) (result_on_numbers op x y) ≡ option_and_then (reduced_to (Angle n)) result }
 {

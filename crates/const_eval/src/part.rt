@@ -4,7 +4,7 @@ ghost use Rattle.angle_arith.specs.Fraction.{Fraction};
 ghost use Rattle.qasm_ast.specs.declared.expr.BinaryOp.TheVariants.{Divide, Multiply};
 ghost use Rattle.qasm_types.specs.OpPlan.{types_of};
 ghost use Rattle.qasm_types.specs.Operators.{group_of};
-ghost use Rattle.qasm_types.specs.Types.{IsConstant};
+ghost use Rattle.qasm_types.specs.Types.{IsWholeConstant};
 ghost use Rattle.qasm_types.specs.Values.{Number, PartOfPi, part_in_range, result_on_parts, test_on_numbers};
 ghost use Rattle.qasm_types.specs.declared.ty.Ty.TheVariants.{Pi};
 ghost use Rattle.const_eval.specs.Answers.{Answers};
@@ -71,7 +71,7 @@ fn on_parts(op: BinaryOp, a: PiFraction, b: PiFraction, at: Span) -> Result<Cons
 // The value of `*` or `/` on a fraction and a whole number.
 fn scaled(op: BinaryOp, part: PiFraction, number: i128, at: Span) -> Result<Const, Fault>
     requires scaling { is_scaling (group_of op) ≡ true }
-    requires range { IsConstant number }
+    requires range { IsWholeConstant number }
     ensures { Answers constant_of result (constant_in_range at Pi (result_on_parts op (PartOfPi part) (Number number))) }
 {
     // The denominator is above 0.

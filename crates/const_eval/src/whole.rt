@@ -2,7 +2,7 @@
 ghost use Rattle.std.specs.Prelude.{◌≡◌, ℕ, ◌^◌, ◌<◌, ◌≤◌, ◌*ℤ◌, pos, unsigned_abs};
 ghost use Rattle.std.specs.Int.{int_div_euclid};
 ghost use Rattle.std.specs.Option.{option_and_then};
-ghost use Rattle.qasm_types.specs.Types.{IsConstant};
+ghost use Rattle.qasm_types.specs.Types.{IsWholeConstant};
 ghost use Rattle.qasm_types.specs.Values.{power as power_of, result_on_numbers, test_on_numbers, where_amount};
 ghost use Rattle.const_eval.specs.Numbered.{in_range as in_range_of};
 
@@ -11,8 +11,8 @@ use word_arith::{whole_and, whole_or, whole_xor};
 
 /// What an operator gives on whole constants, where it has a value and that is in range.
 pub(crate) fn whole_result(op: BinaryOp, left: i128, right: i128) -> Option<i128>
-    requires left { IsConstant left }
-    requires right { IsConstant right }
+    requires left { IsWholeConstant left }
+    requires right { IsWholeConstant right }
     ensures { result ≡ option_and_then in_range_of (result_on_numbers op left right) }
 {
     match op {
@@ -55,7 +55,7 @@ fn product(left: i128, right: i128) -> Option<i128>
 // The number times 2^amount, where the amount is not below 0 and the product is in range. A number other than 0 that is
 // shifted by 64 or more is out of range.
 fn shifted_left(number: i128, amount: i128) -> Option<i128>
-    requires { IsConstant number }
+    requires { IsWholeConstant number }
     ensures { result ≡ option_and_then in_range_of (where_amount amount (number *ℤ pos (2 ^ unsigned_abs amount))) }
 {
     if amount < 0 {
@@ -72,7 +72,7 @@ fn shifted_left(number: i128, amount: i128) -> Option<i128>
 /// The number divided by 2^amount and rounded down, where the amount is not below 0. A shift by 64 or more leaves what one
 /// by 64 leaves.
 pub(crate) fn shifted_right(number: i128, amount: i128) -> Option<i128>
-    requires { IsConstant number }
+    requires { IsWholeConstant number }
     ensures { result ≡ where_amount amount (int_div_euclid number (pos (2 ^ unsigned_abs amount))) }
 {
     if amount < 0 {
@@ -94,7 +94,7 @@ pub(crate) fn power_of_two(amount: u32) -> i128
 
 // The power, where it is in range: by squaring, and no further than to the first number that is out of range.
 fn power(base: i128, exponent: u64) -> Option<i128>
-    requires { IsConstant base }
+    requires { IsWholeConstant base }
     ensures { result ≡ in_range_of (power_of base exponent) }
 {
     if exponent == 0 {
