@@ -1,0 +1,16 @@
+pub mod Library
+pub mod ConstantUses
+pub mod Walked
+pub mod GateCalls
+pub mod Declarations
+pub mod Targets
+pub mod Walk
+pub mod Flow
+pub mod Storing
+pub mod Run
+pub mod Source
+pub mod Remaining
+pub mod WorkedTrees
+pub mod RefusedRows
+pub mod SumRows
+pub mod RunRows
