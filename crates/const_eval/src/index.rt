@@ -45,9 +45,11 @@ fn place_of_step(program: &Program, index: &IndexRef, otherwise: Span) -> Span
     }
 }
 
-/// Why brackets select nothing. A bracket behind a single position follows no register, which stands at the name.
+/// Why brackets select nothing, where `name` is the place of the name in front of them. A bracket behind a single position
+/// follows no register (Q15, at the name); a step is 0 (Q26, at the step); a position is not in the register (Q25, at the
+/// index expression, the range or the member of the set).
 #[tactic(auto, using(crate::proofs::Placing::bracket_there, crate::proofs::Placing::bracket_missing))]
-fn refusal_of_fault(
+pub fn refusal_of_fault(
     program: &Program,
     name: Span,
     index: &Items<IndexRef>,

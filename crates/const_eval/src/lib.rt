@@ -13,6 +13,7 @@
 //   (`constant_value` in `specs/ConstValue.antt`), and of `const_cast`, that it answers the cast or the rule that it breaks
 //   (`cast_of_constant` in `specs/ConstCast.antt`); `Answers` in `specs/Answers.antt` says how a call answers for a
 //   definition. `worked_constants` checks the definitions against rows worked by hand;
+// - of `refusal_of_fault`, that it answers the rule by which brackets select nothing, and its place;
 // - the traits `Constants` and `GateEnv`: the environments of expressions and of calls, whose meanings are finite maps;
 // - of the definitions what names stand for (`specs/Things.antt`); `Walk`, a walk with its cost (`specs/Walk.antt`), and the walks
 //   `constant_walk`, `indexes_walk` and `type_walk` (`specs/ConstantWalk.antt`), `expr_walk` and `cast_walk` (`specs/ExprWalk.antt`),
@@ -46,6 +47,7 @@ pub use constancy::is_constant;
 pub use constant::{AngleCount, BitRegister, Const, WholeNumber};
 pub use environment::{Callable, Constants, GateEnv, Lookup, Qubits, Visible};
 pub use evaluate::const_value;
+pub use index::refusal_of_fault;
 pub use laws::{
     budgets_are_kept, constants_are_constant, walks_are_joined, worked_constants,
     worked_expressions,
