@@ -10,6 +10,7 @@ pub mod Storing
 pub mod Run
 pub mod Source
 pub mod Remaining
+pub mod Laws
 pub mod WorkedTrees
 pub mod RefusedRows
 pub mod SumRows

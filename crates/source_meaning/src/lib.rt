@@ -13,9 +13,12 @@
 // - of programs `walked`, `outputs`, `labels`, `width`, `sites`, `source_run` and `source_halt` (`specs/Source.antt`);
 // - of the middle of a run `remaining_run` and `rest_seen` (`specs/Remaining.antt`).
 //
-// `worked_refusals`, `worked_sums` and `worked_runs` check the definitions against programs worked by hand.
+// `longer_runs_go_on` is a law of runs: more turns and further outcomes change no run that ended, and take no event back from
+// another; `all_is_left_at_first`, that what is left in front of the first statement is the whole run. `worked_refusals`, `worked_sums` and `worked_runs` check the definitions against programs worked by hand.
 #![tactic(auto)]
 
 mod laws;
 
-pub use laws::{worked_refusals, worked_runs, worked_sums};
+pub use laws::{
+    all_is_left_at_first, longer_runs_go_on, worked_refusals, worked_runs, worked_sums,
+};
