@@ -1,0 +1,9 @@
+pub mod ByRow
+pub mod Copies
+pub mod Found
+pub mod Leaves
+pub mod Loops
+pub mod Returning
+pub mod Rows
+pub mod Turning
+pub mod Units

@@ -1,0 +1,12 @@
+pub mod Units
+pub mod Instructions
+pub mod Turns
+pub mod Seen
+pub mod Modifiers
+pub mod Laws
+pub mod Paid
+pub mod Pushed
+pub mod Amounts
+pub mod Members
+pub mod Growing
+pub mod Worths
