@@ -3,8 +3,9 @@
 //
 // It has definitions alone, so that the layers that walk and run programs cite the same ones. It stands on `qasm_ast` for
 // programs as trees, on `const_eval` for what names stand for and for expressions, with their walks and their values, on
-// `qasm_types` for types and values, on `scope_env` for the open scopes, on `alias_resolve` for what brackets select, and on
-// `gate_table` for the names of gates. The expansion of a gate call is a parameter (`Expands` in `specs/GateCalls.antt`).
+// `qasm_types` for types and values, on `scope_env` for the open scopes, on `alias_resolve` for what brackets select, on
+// `gate_table` for the names of gates, and on `gate_lists` for instructions. The expansion of a gate call is a parameter
+// (`Expands` in `specs/GateCalls.antt`).
 //
 // The layers above use:
 //
