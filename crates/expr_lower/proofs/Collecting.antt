@@ -123,7 +123,7 @@ any_at p (x ∷ xs) k among passes =
     or_true true b e = refl
     or_true false b e = e
 
-any_from : (p : ℕ → Bool) (xs : List ℕ) → list_any p xs ≡ true → (k : ℕ) × Among k xs × (p k ≡ true)
+pub any_from : (p : ℕ → Bool) (xs : List ℕ) → list_any p xs ≡ true → (k : ℕ) × Among k xs × (p k ≡ true)
 any_from p [] any = absurd (false≢true any)
 any_from p (x ∷ xs) any = here (p x) refl any (any_from p xs)
   where
@@ -131,7 +131,7 @@ any_from p (x ∷ xs) any = here (p x) refl any (any_from p xs)
     here true is any behind = (x, inl refl, is)
     here false is any behind = let there = behind any in (there.0, inr there.1, there.2)
 
-or_cases : (a b : Bool) → (a || b) ≡ true → (a ≡ true) ⊎ (b ≡ true)
+pub or_cases : (a b : Bool) → (a || b) ≡ true → (a ≡ true) ⊎ (b ≡ true)
 or_cases true b e = inl refl
 or_cases false b e = inr e
 
@@ -162,7 +162,7 @@ one_further exprs (suc levels) k j e named reach =
     any_at (reaches_within exprs (suc levels) j) (operands_of (slice_get exprs e)) via.0 via.1 (one_further exprs levels k j via.0 named via.2))
     (or_cases (nat_eq e k) (list_any (reaches_within exprs levels k) (operands_of (slice_get exprs e))) reach))
 
-reach_step : (exprs : List CoreExpr) (roots : List ℕ) (k j : ℕ) → NameEarlier exprs (length exprs) → AllByRecursion (λ e. e < length exprs) roots → Among j (operands_of (slice_get exprs k))
+pub reach_step : (exprs : List CoreExpr) (roots : List ℕ) (k j : ℕ) → NameEarlier exprs (length exprs) → AllByRecursion (λ e. e < length exprs) roots → Among j (operands_of (slice_get exprs k))
     → is_reached exprs roots k ≡ true → is_reached exprs roots j ≡ true
 unfolding reaches_expr
 reach_step exprs roots k j w within named reach =
@@ -170,7 +170,7 @@ reach_step exprs roots k j w within named reach =
     any_at (reaches_expr exprs j) roots via.0 via.1
     (fewer exprs (length exprs) w (suc (suc via.0)) (suc via.0) j via.0 (all_at (λ e. e < length exprs) roots via.0 within via.1) (omega arith) (one_further exprs (suc via.0) k j via.0 named via.2))
 
-root_reached : (exprs : List CoreExpr) (roots : List ℕ) (e : ℕ) → Among e roots → is_reached exprs roots e ≡ true
+pub root_reached : (exprs : List CoreExpr) (roots : List ℕ) (e : ℕ) → Among e roots → is_reached exprs roots e ≡ true
 unfolding reaches_expr
 root_reached exprs roots e among =
     any_at (reaches_expr exprs e) roots e among (ap (λ b. b || list_any (reaches_within exprs e e) (operands_of (slice_get exprs e))) (eq-eqb e e refl))

@@ -22,10 +22,10 @@ abbrev passing : (ℕ → Bool) → List ℕ → ℕ
 passing test [] = 0
 passing test (k ∷ ks) = if test k then suc (passing test ks) else passing test ks
 
-abbrev Inside : ℕ → ℕ → ℕ → Type 0
+abbrev pub Inside : ℕ → ℕ → ℕ → Type 0
 Inside low n k = (low ≤ k) × (k < low + n)
 
-all_inside : (low n k : ℕ) (ks : List ℕ) → low ≤ k → AllByRecursion (λ y. k < y) ks → AllByRecursion (Inside low (suc n)) ks → AllByRecursion (Inside (suc low) n) ks
+pub all_inside : (low n k : ℕ) (ks : List ℕ) → low ≤ k → AllByRecursion (λ y. k < y) ks → AllByRecursion (Inside low (suc n)) ks → AllByRecursion (Inside (suc low) n) ks
 all_inside low n k [] l above inside = tt
 all_inside low n k (j ∷ ks) l above inside = ((omega (arith, l, above.0), omega (arith, inside.0)), all_inside low n k ks l above.1 inside.1)
 
@@ -49,7 +49,7 @@ count_list test (suc n) low (k ∷ ks) rises inside =
     both true le = omega (arith, le)
     both false le = le
 
-inside_all : (n : ℕ) (ks : List ℕ) → AllByRecursion (λ k. k < n) ks → AllByRecursion (Inside 0 n) ks
+pub inside_all : (n : ℕ) (ks : List ℕ) → AllByRecursion (λ k. k < n) ks → AllByRecursion (Inside 0 n) ks
 inside_all n [] within = tt
 inside_all n (k ∷ ks) within = ((omega arith, omega (arith, within.0)), inside_all n ks within.1)
 

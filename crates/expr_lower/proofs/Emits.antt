@@ -1,20 +1,21 @@
 -- The code of expressions computes their values.
 use Rattle.std.proofs.Common.{◌≡◌, ◌≢◌, ℕ, zero, suc, ◌+◌, ◌<◌, ◌≤◌, ◌⊎◌, inl, inr, nat_eq, if◌then◌else◌, Bool, true, false, not, ◌&&◌, ◌||◌, All, List, [], ◌∷◌, ◌++◌, length, map, get_or, ℤ, pos, negsuc, Option, Some, None, refl, sym, ap, ◌∙◌, subst, ⊎_elim, arith, append_assoc, length-append}
-use Rattle.std.specs.Prelude.{slice_get, nat_le, IsSome, ◌≤ℤ◌, ◌%◌, ◌^◌, ◌-◌}
+use Rattle.std.specs.Prelude.{slice_get, nat_le, IsSome, ◌≤ℤ◌, ◌%◌, ◌^◌, ◌-◌, FitsSigned}
 use Rattle.std.specs.Int.{w64, cast_unsigned}
 use Rattle.std.specs.List.{AllByRecursion}
 use Rattle.std.proofs.lemmas.Bool.{false≢true, cases_lt, eq-eqb, ne_eqb, le-leb}
 use Rattle.std.proofs.lemmas.Int.{ints}
 use Rattle.std.proofs.lemmas.Option.{slice_get-get_or}
 use Rattle.std.proofs.lemmas.List.{get_or_past}
-use Rattle.std.proofs.lemmas.List.Elements.{All-get_or, All-cons, All-nil}
+use Rattle.std.proofs.lemmas.List.Elements.{All-get_or, All-cons, All-nil, recursion_from_All}
 use Rattle.qir_module.specs.declared.instruction.Operand.{Operand}
 use Rattle.qir_module.specs.declared.instruction.Operand.TheVariants.{Register, Fixed}
 use Rattle.qir_module.specs.declared.instruction.Opcode.{Opcode}
-use Rattle.qir_module.specs.declared.instruction.Opcode.TheVariants.{Sdiv, Srem, Udiv, Urem, Shl, Lshr, Ashr}
+use Rattle.qir_module.specs.declared.instruction.Opcode.TheVariants.{Add, Sub, Mul, Sdiv, Srem, Udiv, Urem, Shl, Lshr, Ashr, And, Or, Xor, Eq, Ne, Slt, Sle, Sgt, Sge, Ult, Ule, Ugt, Uge}
 use Rattle.qir_module.specs.declared.instruction.Instr.{Instr}
 use Rattle.qir_module.specs.declared.instruction.Instr.TheVariants.{Op}
 use Rattle.qir_module.specs.Machine.{Word, Holds as HoldsTruth, State, with_register, value_in}
+use Rattle.qir_module.specs.Module.{IsTruthOpcode}
 use Rattle.qir_module.specs.Passes.{is_fixed_between, constants_fit}
 use Rattle.core_ir.specs.declared.expression.CellKind.{CellKind}
 use Rattle.core_ir.specs.declared.expression.CellKind.TheVariants.{Truth as TruthKind, Number as NumberKind}
@@ -29,7 +30,7 @@ use Rattle.cell_operands.specs.Operands.{is_number, operand_of, HoldsCells, IsBe
 use Rattle.core_ir.specs.Laws.{NameEarlier, ExprsUnfold}
 use Rattle.expr_lower.specs.declared.emit.Entry.{Entry}
 use Rattle.expr_lower.specs.Emit.{nothing, place_in, found, is_truth_cell, entry_of, code_of, Emitted, emit}
-use Rattle.expr_lower.specs.Lowered.{straight, HoldValues, IsConstant, AreConstant, IsFixedFor, IsTyped, Gives, ReadsOnly, Behind, HasCell, AreTyped, AreCells, IsLowered}
+use Rattle.expr_lower.specs.Lowered.{straight, HoldValues, IsHeldExpr, IsConstant, AreConstant, IsFixedFor, IsTyped, Gives, ReadsOnly, Behind, HasCell, AreTyped, AreCells, IsLowered}
 use Rattle.expr_lower.specs.Order.{Among, Rises, IsOrder}
 use Rattle.expr_lower.proofs.Collecting.{all_at, among_back, among_cases}
 use Rattle.expr_lower.proofs.Registers.{SameBelow, register_kept, same_value, TypeIs, value_here, value_type, is_truth, is_word, SafeWord, gives_word, gives_truth, runs_words, runs_truths, runs_widen, runs_narrow, runs_choose, straight_append}
@@ -41,6 +42,7 @@ use Rattle.expr_lower.proofs.Counting.{emit_registers, code_few}
 pub record Known (core : Core) : Type 0 where
   pub fits : IsWellFormed core
   pub safe : IsSafe core.exprs
+  pub words : AllByRecursion IsHeldExpr core.exprs
   pub unfolds : ExprsUnfold
 
 earlier : (core : Core) → Known core → NameEarlier core.exprs (length core.exprs)
@@ -101,6 +103,45 @@ choose_from (Some TruthKind) (Some TruthKind) None some = absurd (false≢true s
 choose_from (Some TruthKind) (Some TruthKind) (Some NumberKind) some = absurd (false≢true some)
 choose_from (Some TruthKind) (Some NumberKind) None some = absurd (false≢true some)
 choose_from (Some TruthKind) (Some NumberKind) (Some TruthKind) some = absurd (false≢true some)
+
+-- ---- words of the core, and instructions on truth values
+
+held_word : (exprs : List CoreExpr) (k : ℕ) (z : ℤ) → AllByRecursion IsHeldExpr exprs → slice_get exprs k ≡ Some (NumberNode z) → FitsSigned w64 z
+held_word [] k z held is = cc
+held_word (x ∷ exprs) zero z held is = subst IsHeldExpr (some_same_node x (NumberNode z) is) held.0
+  where
+    some_same_node : (a b : CoreExpr) → Some a ≡ Some b → a ≡ b
+    some_same_node a b e = cc
+held_word (x ∷ exprs) (suc k) z held is = held_word exprs k z held.1 is
+
+truth_opcode : (op : Opcode) → is_bitwise op ≡ true → IsTruthOpcode true op
+truth_opcode And is = tt
+truth_opcode Or is = tt
+truth_opcode Xor is = tt
+truth_opcode Add is = absurd (false≢true is)
+truth_opcode Sub is = absurd (false≢true is)
+truth_opcode Mul is = absurd (false≢true is)
+truth_opcode Sdiv is = absurd (false≢true is)
+truth_opcode Srem is = absurd (false≢true is)
+truth_opcode Udiv is = absurd (false≢true is)
+truth_opcode Urem is = absurd (false≢true is)
+truth_opcode Shl is = absurd (false≢true is)
+truth_opcode Lshr is = absurd (false≢true is)
+truth_opcode Ashr is = absurd (false≢true is)
+truth_opcode Eq is = absurd (false≢true is)
+truth_opcode Ne is = absurd (false≢true is)
+truth_opcode Slt is = absurd (false≢true is)
+truth_opcode Sle is = absurd (false≢true is)
+truth_opcode Sgt is = absurd (false≢true is)
+truth_opcode Sge is = absurd (false≢true is)
+truth_opcode Ult is = absurd (false≢true is)
+truth_opcode Ule is = absurd (false≢true is)
+truth_opcode Ugt is = absurd (false≢true is)
+truth_opcode Uge is = absurd (false≢true is)
+
+fits_flag : (op : Opcode) (truth : Bool) (a b : Option CellKind) → ((k : CellKind) → a ≡ Some k → truth ≡ not (is_number k)) → OpKinds op a b → IsTruthOpcode truth op
+fits_flag op truth a b flag (inl numbers) = subst (λ t. IsTruthOpcode t op) (sym (flag NumberKind numbers.0)) tt
+fits_flag op truth a b flag (inr truths) = subst (λ t. IsTruthOpcode t op) (sym (flag TruthKind truths.0)) (truth_opcode op truths.2)
 
 -- ---- what is known of the expressions that are done
 
@@ -259,7 +300,7 @@ node_facts core operands has memo low next k (TruthNode b) known l is cells le g
 node_facts core operands has memo low next k (NumberNode z) known l is cells le gains named = record {
   kind = λ kind has_kind. ap (λ (j : CellKind). not (is_number j)) (some_same NumberKind kind (sym (kind_is core k (NumberNode z) known l is) ∙ has_kind));
   below = tt;
-  typed = tt;
+  typed = held_word core.exprs k z known.words is;
   constant = subst (λ o. IsConstant o (Fixed z)) (sym is) refl;
 }
 node_facts core operands has memo low next k (OpNode op a b) known l is cells le gains named =
@@ -304,7 +345,8 @@ node_reads core has memo next k (OpNode op a b) known l is named =
     (λ numbers. (named b (inr (inl refl))).kind NumberKind numbers.1 ∙ sym ((named a (inl refl)).kind NumberKind numbers.0))
     (λ truths. (named b (inr (inl refl))).kind TruthKind truths.1 ∙ sym ((named a (inl refl)).kind TruthKind truths.0))
     (op_kinds op (kind_at core a) (kind_at core b) (node_has_kind core k (OpNode op a b) known l is)) in
-    (((named a (inl refl)).typed, at_flag has (memo b).truth (memo a).truth (memo b).operand same (named b (inr (inl refl))).typed), tt)
+    let kinds = op_kinds op (kind_at core a) (kind_at core b) (node_has_kind core k (OpNode op a b) known l is) in
+    ((fits_flag op (memo a).truth (kind_at core a) (kind_at core b) (named a (inl refl)).kind kinds, (named a (inl refl)).typed, at_flag has (memo b).truth (memo a).truth (memo b).operand same (named b (inr (inl refl))).typed), tt)
 node_reads core has memo next k (WidenNode a) known l is named =
     let from = widen_from (kind_at core a) (node_has_kind core k (WidenNode a) known l is) in
     (at_flag has (memo a).truth true (memo a).operand ((named a (inl refl)).kind TruthKind from) (named a (inl refl)).typed, tt)
@@ -531,21 +573,21 @@ node_steps core operands cells labels s has memo next k (ChooseNode test a b) kn
 
 -- ---- all of them
 
-append_nil : (xs : List ℕ) → xs ++ [] ≡ xs
+pub append_nil : (xs : List ℕ) → xs ++ [] ≡ xs
 append_nil [] = refl
 append_nil (x ∷ xs) = ap (λ ys. x ∷ ys) (append_nil xs)
 
-next_front : (order front rest : List ℕ) (k : ℕ) → order ≡ front ++ k ∷ rest → order ≡ (front ++ k ∷ []) ++ rest
+pub next_front : (order front rest : List ℕ) (k : ℕ) → order ≡ front ++ k ∷ rest → order ≡ (front ++ k ∷ []) ++ rest
 next_front order front rest k is = is ∙ sym (append_assoc front (k ∷ []) rest)
 
-kept_in : (order front rest : List ℕ) (done : List Entry) (e : Entry) (k j : ℕ) → order ≡ front ++ k ∷ rest → length done ≡ length front → Among j front → found order (done ++ e ∷ []) j ≡ found order done j
+pub kept_in : (order front rest : List ℕ) (done : List Entry) (e : Entry) (k j : ℕ) → order ≡ front ++ k ∷ rest → length done ≡ length front → Among j front → found order (done ++ e ∷ []) j ≡ found order done j
 kept_in order front rest done e k j is long among = subst (λ (o : List ℕ). found o (done ++ e ∷ []) j ≡ found o done j) (sym is) (found_kept k j front rest done e long among)
 
-new_in : (order front rest : List ℕ) (done : List Entry) (e : Entry) (k : ℕ) → order ≡ front ++ k ∷ rest → Rises order → length done ≡ length front → found order (done ++ e ∷ []) k ≡ e
+pub new_in : (order front rest : List ℕ) (done : List Entry) (e : Entry) (k : ℕ) → order ≡ front ++ k ∷ rest → Rises order → length done ≡ length front → found order (done ++ e ∷ []) k ≡ e
 new_in order front rest done e k is rises long =
     subst (λ (o : List ℕ). found o (done ++ e ∷ []) k ≡ e) (sym is) (found_new k front rest done e long (front_below k front rest (subst Rises is rises)))
 
-among_here : (order front rest : List ℕ) (k : ℕ) → order ≡ front ++ k ∷ rest → Among k order
+pub among_here : (order front rest : List ℕ) (k : ℕ) → order ≡ front ++ k ∷ rest → Among k order
 among_here order front rest k is = subst (Among k) (sym is) (among_back k front (k ∷ rest) (inl refl))
 
 -- the expressions that the next one names are done
@@ -697,10 +739,10 @@ all_below core has next order done [] among facts = All-nil (IsBelow next)
 all_below core has next order done (e ∷ exprs) among facts =
     All-cons (IsBelow next) (found order done e).operand (map (λ (i : ℕ). (found order done i).operand) exprs) (facts e among.0).below (all_below core has next order done exprs among.1 facts)
 
-pub lowered : (core : Core) (roots order : List ℕ) (operands : List Operand) (next : ℕ) → IsWellFormed core → IsSafe core.exprs → ExprsUnfold → AreCells core.cells next operands → IsOrder core.exprs roots order
+pub lowered : (core : Core) (roots order : List ℕ) (operands : List Operand) (next : ℕ) → IsWellFormed core → IsSafe core.exprs → All IsHeldExpr core.exprs → ExprsUnfold → AreCells core.cells next operands → IsOrder core.exprs roots order
     → IsLowered core roots operands next (emit core.exprs core.cells operands order order [] next).code (map (λ (e : ℕ). (found order (emit core.exprs core.cells operands order order [] next).done e).operand) roots)
-lowered core roots order operands next fits safe unfolds are is =
-    let known : Known core = record { fits = fits; safe = safe; unfolds = unfolds } in
+lowered core roots order operands next fits safe held unfolds are is =
+    let known : Known core = record { fits = fits; safe = safe; words = recursion_from_All IsHeldExpr core.exprs held; unfolds = unfolds } in
     let has = HasCell core.cells operands in
     let em = emit core.exprs core.cells operands order order [] next in
     let fine = emit_fine core roots operands has next next order [] order [] known are (omega arith) (λ r t h. h) is refl (start_fine core has next order) in
@@ -717,20 +759,3 @@ lowered core roots order operands next fits safe unfolds are is =
       typed = types_kept core (Behind has em.code) (next + length em.code) order em.done roots is.has_roots fine.each;
       below = all_below core (Behind has em.code) (next + length em.code) order em.done roots is.has_roots fine.each;
     }
-
--- ---- for the code
-
--- the same of lists that are those of the core and of the order
-pub lowered_by : (core : Core) (roots order order' order'' : List ℕ) (exprs exprs' : List CoreExpr) (kinds : List CellKind) (operands : List Operand) (next : ℕ) (done done' : List Entry) (code : List Instr) (picked : List Operand)
-    → IsWellFormed core → IsSafe core.exprs → ExprsUnfold → AreCells core.cells next operands → exprs ≡ core.exprs → IsOrder exprs roots order → exprs' ≡ core.exprs → kinds ≡ core.cells → order' ≡ order → order'' ≡ order
-    → done ≡ (emit exprs' kinds operands order' order' [] next).done → code ≡ (emit exprs' kinds operands order' order' [] next).code → done' ≡ done
-    → picked ≡ map (λ (e : ℕ). (found order'' done' e).operand) roots → IsLowered core roots operands next code picked
-lowered_by core roots order order' order'' exprs exprs' kinds operands next done done' code picked fits safe unfolds are is order_is is' kinds_are same same' done_is code_is done_same picked_is =
-    let made = lowered core roots order operands next fits safe unfolds are (subst (λ (es : List CoreExpr). IsOrder es roots order) is order_is) in
-    let emitted : emit exprs' kinds operands order' order' [] next ≡ emit core.exprs core.cells operands order order [] next =
-    ap (λ (es : List CoreExpr). emit es kinds operands order' order' [] next) is' ∙ ap (λ (ks : List CellKind). emit core.exprs ks operands order' order' [] next) kinds_are ∙ ap (λ (o : List ℕ). emit core.exprs core.cells operands o o [] next) same in
-    let the_done : done' ≡ (emit core.exprs core.cells operands order order [] next).done = done_same ∙ done_is ∙ ap (λ (em : Emitted). em.done) emitted in
-    let the_picked : picked ≡ map (λ (e : ℕ). (found order (emit core.exprs core.cells operands order order [] next).done e).operand) roots =
-    picked_is ∙ ap (λ (o : List ℕ). map (λ (e : ℕ). (found o done' e).operand) roots) same' ∙ ap (λ (d : List Entry). map (λ (e : ℕ). (found order d e).operand) roots) the_done in
-    subst (λ (os : List Operand). IsLowered core roots operands next code os) (sym the_picked)
-    (subst (λ (is : List Instr). IsLowered core roots operands next is (map (λ (e : ℕ). (found order (emit core.exprs core.cells operands order order [] next).done e).operand) roots)) (sym (code_is ∙ ap (λ (em : Emitted). em.code) emitted)) made)

@@ -1,3 +1,4 @@
+pub mod Coding
 pub mod Collecting
 pub mod Counting
 pub mod Emits

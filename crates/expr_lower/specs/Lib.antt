@@ -1,3 +1,4 @@
+pub mod Coded
 pub mod Emit
 pub mod Lowered
 pub mod Order

@@ -1,5 +1,6 @@
 -- What it means that straight instructions compute the values of expressions.
-use Rattle.std.specs.Prelude.{◌≡◌, ◌⊎◌, ℕ, ◌+◌, ◌≤◌, Bool, true, false, not, ◌||◌, All, List, [], ◌∷◌, ◌++◌, length, slice_get, ℤ, pos, Option, Some, None}
+use Rattle.std.specs.Prelude.{◌≡◌, ◌⊎◌, ℕ, ◌+◌, ◌≤◌, Bool, true, false, not, ◌||◌, All, List, [], ◌∷◌, ◌++◌, length, slice_get, ℤ, pos, Option, Some, None, FitsSigned}
+use Rattle.std.specs.Int.{w64}
 use Rattle.std.specs.List.{AllByRecursion, flat_map}
 use Rattle.qir_module.specs.declared.instruction.Operand.{Operand}
 use Rattle.qir_module.specs.declared.instruction.Operand.TheVariants.{Register, Fixed}
@@ -7,6 +8,7 @@ use Rattle.qir_module.specs.declared.instruction.Instr.{Instr}
 use Rattle.qir_module.specs.declared.instruction.Instr.TheVariants.{Op, Zext, Trunc, Select, Call}
 use Rattle.qir_module.specs.declared.instruction.Last.{Last}
 use Rattle.qir_module.specs.Machine.{State, value_in, Effect, Goes, effect_of, Later, run_rest}
+use Rattle.qir_module.specs.Module.{IsTruthOpcode}
 use Rattle.qir_module.specs.Numbered.{CountsFrom, registers_of}
 use Rattle.qir_module.specs.Passes.{constants_fit}
 use Rattle.core_ir.specs.declared.expression.CellKind.{CellKind}
@@ -64,10 +66,16 @@ AreConstant nodes (e ∷ exprs) (o ∷ operands) = IsConstant (slice_get nodes e
 AreConstant nodes [] (o ∷ operands) = ⊥
 AreConstant nodes (e ∷ exprs) [] = ⊥
 
+-- a word of the core has 64 bits
+abbrev pub IsHeldExpr : CoreExpr → Type 0
+IsHeldExpr (NumberNode z) = FitsSigned w64 z
+IsHeldExpr _ = Unit {0}
+
 -- ---- what is read
 
+-- a fixed word has 64 bits
 abbrev pub IsFixedFor : Bool → ℤ → Type 0
-IsFixedFor false z = Unit {0}
+IsFixedFor false z = FitsSigned w64 z
 IsFixedFor true z = (z ≡ pos 0) ⊎ (z ≡ pos 1)
 
 -- an operand of a type, where `has` says which registers there are, and of which type; a truth value is fixed as 0 or 1
@@ -76,7 +84,7 @@ IsTyped has truth (Register r) = has r truth
 IsTyped has truth (Fixed z) = IsFixedFor truth z
 
 abbrev pub Reads : (ℕ → Bool → Type 0) → Instr → Type 0
-Reads has (Op r op truth left right) = IsTyped has truth left × IsTyped has truth right
+Reads has (Op r op truth left right) = IsTruthOpcode truth op × IsTyped has truth left × IsTyped has truth right
 Reads has (Zext r from) = IsTyped has true from
 Reads has (Trunc r from) = IsTyped has false from
 Reads has (Select r truth test chosen other) = IsTyped has true test × IsTyped has truth chosen × IsTyped has truth other

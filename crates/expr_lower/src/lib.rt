@@ -3,7 +3,8 @@
 // other expression is one instruction.
 //
 // It stands on `core_ir` and `qir_module`. The layer above uses the contract of `lower_expr`, whose words stand in
-// `specs/Lowered.antt`, and the laws of `laws`: a block goes on behind straight instructions, and no more expressions are
+// `specs/Lowered.antt`: its answer is that of one function, `coded` of `specs/Coded.antt`. And it uses the laws of `laws`:
+// what that function's code computes, that a block goes on behind straight instructions, and that no more expressions are
 // reached than there are.
 #![tactic(auto)]
 

@@ -4,8 +4,9 @@ ghost use Rattle.std.specs.Prelude.{◌≡◌, ◌+◌, ◌<◌, ◌^◌, ◌++�
 ghost use Rattle.qir_module.specs.declared.instruction.Instr.{Instr as AnInstr};
 ghost use Rattle.std.specs.List.Sorted.{IsStrictlyIncreasing};
 ghost use Rattle.core_ir.specs.WellFormed.{IsWellFormed, IsSafe};
+ghost use Rattle.expr_lower.specs.Coded.{coded};
 ghost use Rattle.expr_lower.specs.Emit.{found};
-ghost use Rattle.expr_lower.specs.Lowered.{AreCells, reached_nodes, IsLowered};
+ghost use Rattle.expr_lower.specs.Lowered.{IsHeldExpr, AreCells, reached_nodes, IsLowered};
 
 use crate::emit::{Emission, Entry, emit, find};
 use crate::reached::reached;
@@ -16,8 +17,9 @@ use qq_base::NoMemory;
 use std::alloc::Global;
 
 /// Appends straight instructions and gives an operand for each expression, in order, which has the
-/// expression's value behind them. A node that several of the expressions reach has one instruction, and a
-/// constant is a fixed operand. The registers are `next` and those behind it.
+/// expression's value behind them, where the cells are as `AreCells` says, divisors and amounts of shifts as
+/// `IsSafe` says, and words have 64 bits. A node that several of the expressions reach has one instruction, and a constant is a
+/// fixed operand. The registers are `next` and those behind it.
 pub fn lower_expr(
     alloc: Global,
     core: &Core,
@@ -27,11 +29,14 @@ pub fn lower_expr(
     body: &mut Vec<Instr>,
 ) -> Result<Vec<Operand>, NoMemory>
     requires well_formed { IsWellFormed core.now }
-    requires safe { IsSafe core.now.exprs }
     requires within { All (λ e. e < length core.now.exprs) exprs.now }
-    requires cells { AreCells core.now.cells next.old cells.now }
     requires room { next.old + reached_nodes core.now.exprs exprs.now < 2 ^ 32 }
-    ensures ok { IfOk result (λ operands. (code : List AnInstr) × (body.new.items ≡ body.old.items ++ code) × (next.new ≡ next.old + length code) × IsLowered core.now exprs.now cells.now next.old code operands.items) }
+    // The answer is that of one function of what is passed.
+    ensures code { IfOk result (λ _. body.new.items ≡ body.old.items ++ (coded core.now exprs.now cells.now next.old).code) }
+    ensures operands { IfOk result (λ operands. operands.items ≡ (coded core.now exprs.now cells.now next.old).operands) }
+    ensures after { IfOk result (λ _. next.new ≡ next.old + length (coded core.now exprs.now cells.now next.old).code) }
+    ensures ok { IsSafe core.now.exprs → All IsHeldExpr core.now.exprs → AreCells core.now.cells next.old cells.now
+        → IfOk result (λ operands. (code : List AnInstr) × (body.new.items ≡ body.old.items ++ code) × (next.new ≡ next.old + length code) × IsLowered core.now exprs.now cells.now next.old code operands.items) }
     ensures body_stays { OnErr result (body.new.items ≡ body.old.items) }
     ensures next_stays { OnErr result (next.new ≡ next.old) }
 {
