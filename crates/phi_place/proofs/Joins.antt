@@ -119,35 +119,22 @@ pub carried_header : (needs : ℕ → Bool) (entry : CellState) (kinds : List Ce
 carried_header needs entry kinds next phis values fits first second =
     subst (λ ps. Carries ps kinds entry values) (sym first) (subst (Carries (phis_for needs (entry ∷ []) kinds 0 next) kinds entry) (sym second) (header_carries needs entry kinds next fits))
 
-pub carried_join : (ways rest : List CellState) (first : CellState) (kinds : List CellKind) (next : ℕ) (phis : List Phi) (values : List Operand) → ways ≡ first ∷ rest → HaveOwnBlocks ways → All (IsWay (length kinds) next) ways
-    → phis ≡ phis_for (ways_differ (first ∷ rest)) (first ∷ rest) kinds 0 next → values ≡ values_for (ways_differ (first ∷ rest)) first.values 0 next → All (λ way. Carries phis kinds way values) ways
-carried_join ways rest first kinds next phis values split own fits is also =
-    let all = join_carries (first ∷ rest) kinds next (omega arith) (subst HaveOwnBlocks split own) (subst (All (IsWay (length kinds) next)) split fits) in
-    subst (All (λ way. Carries phis kinds way values)) (sym split)
-    (subst (λ ps. All (λ way. Carries ps kinds way values) (first ∷ rest)) (sym is)
-    (subst (λ vs. All (λ way. Carries (phis_for (ways_differ (first ∷ rest)) (first ∷ rest) kinds 0 next) kinds way vs) (first ∷ rest)) (sym also) all))
+pub carried_join : (ways : List CellState) (kinds : List CellKind) (next : ℕ) (phis : List Phi) (values : List Operand) → 0 < length ways → HaveOwnBlocks ways → All (IsWay (length kinds) next) ways
+    → phis ≡ phis_for (ways_differ ways) ways kinds 0 next → values ≡ values_for (ways_differ ways) (first_values ways) 0 next → All (λ way. Carries phis kinds way values) ways
+carried_join ways kinds next phis values some own fits is also =
+    subst (λ ps. All (λ way. Carries ps kinds way values) ways) (sym is)
+    (subst (λ vs. All (λ way. Carries (phis_for (ways_differ ways) ways kinds 0 next) kinds way vs) ways) (sym also) (join_carries ways kinds next some own fits))
 
-pub named_join : (ways rest : List CellState) (first : CellState) (kinds : List CellKind) (next : ℕ) (phis : List Phi) → ways ≡ first ∷ rest → phis ≡ phis_for (ways_differ (first ∷ rest)) (first ∷ rest) kinds 0 next
-    → All (λ (p : Phi). map (λ (e : Operand × ℕ). e.1) p.entries ≡ blocks_of ways) phis
-named_join ways rest first kinds next phis split is =
-    subst (λ ws. All (λ (p : Phi). map (λ (e : Operand × ℕ). e.1) p.entries ≡ blocks_of ws) phis) (sym split)
-    (subst (All (λ (p : Phi). map (λ (e : Operand × ℕ). e.1) p.entries ≡ blocks_of (first ∷ rest))) (sym is) (entries_name (ways_differ (first ∷ rest)) (first ∷ rest) kinds 0 next))
-
-pub counted_join : (ways rest : List CellState) (first : CellState) (kinds : List CellKind) (next : ℕ) (phis : List Phi) → ways ≡ first ∷ rest → phis ≡ phis_for (ways_differ (first ∷ rest)) (first ∷ rest) kinds 0 next → CountsFrom next (registers_of phis)
-counted_join ways rest first kinds next phis split is = counted_phis (ways_differ (first ∷ rest)) (first ∷ rest) kinds next phis is
+pub named_phis : (needs : ℕ → Bool) (ways : List CellState) (kinds : List CellKind) (next : ℕ) (phis : List Phi) → phis ≡ phis_for needs ways kinds 0 next → All (λ (p : Phi). map (λ (e : Operand × ℕ). e.1) p.entries ≡ blocks_of ways) phis
+named_phis needs ways kinds next phis is = subst (All (λ (p : Phi). map (λ (e : Operand × ℕ). e.1) p.entries ≡ blocks_of ways)) (sym is) (entries_name needs ways kinds 0 next)
 
 pub named_header : (needs : ℕ → Bool) (entry : CellState) (kinds : List CellKind) (next : ℕ) (phis : List Phi) → phis ≡ phis_for needs (entry ∷ []) kinds 0 next → All (λ (p : Phi). map (λ (e : Operand × ℕ). e.1) p.entries ≡ entry.block ∷ []) phis
 named_header needs entry kinds next phis is = subst (All (λ (p : Phi). map (λ (e : Operand × ℕ). e.1) p.entries ≡ entry.block ∷ [])) (sym is) (entries_name needs (entry ∷ []) kinds 0 next)
 
-take_all : (ways : List CellState) → take (length ways) ways ≡ ways
-take_all [] = refl
-take_all (w ∷ ways) = ap (λ ws. w ∷ ws) (take_all ways)
-
-pub front_of : (ways : List CellState) (first : CellState) → 0 < length ways → first ≡ get_or ways 0 first → ways ≡ first ∷ take (length ways - 1) (drop 1 ways)
-front_of [] first some is = absurd (omega (arith, some))
-front_of (w ∷ ways) first some is =
-    let less : suc (length ways) - 1 ≡ length ways = omega arith in
-    ap (λ (v : CellState). v ∷ ways) (sym is) ∙ ap (λ ws. first ∷ ws) (sym (ap (λ (n : ℕ). take n ways) less ∙ take_all ways))
+-- the operands of the first way
+pub first_of : (ways : List CellState) (first : CellState) (values : List Operand) → 0 < length ways → first ≡ get_or ways 0 first → values ≡ first.values → values ≡ first_values ways
+first_of [] first values some is seen = absurd (omega (arith, some))
+first_of (w ∷ ways) first values some is seen = seen ∙ ap (λ (v : CellState). v.values) is
 
 -- ---- one cell further, as the code goes
 

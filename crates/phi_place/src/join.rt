@@ -8,11 +8,13 @@ ghost use Rattle.cell_operands.specs.Operands.{is_number};
 ghost use Rattle.phi_place.specs.Phis.{operand_at, same_operand, all_same, ways_differ, is_listed, entries_of, phis_for, values_for, first_values, Carries, IsWay, HaveOwnBlocks};
 ghost use Rattle.phi_place.specs.Needs.{needs_of, RisesIf};
 
+use crate::operands::Operands;
 use crate::state::CellState;
 use core_ir::CellKind;
 use qir_module::{Operand, Phi, Sequence};
 use qq_base::NoMemory;
 use std::alloc::Global;
+use std::slice;
 
 /// Joins the states of several predecessors into the state of a block: a cell has a phi exactly where two of
 /// them have different operands. The registers of the phis are `next` and those behind it.
@@ -24,16 +26,17 @@ pub fn join_phis(
     next: &mut u32,
 ) -> Result<(Vec<Phi>, CellState), NoMemory>
     requires some { 0 < length ways.now }
-    requires own { HaveOwnBlocks ways.now }
-    requires fit { All (IsWay (length kinds.now) next.old) ways.now }
     requires room { next.old + length kinds.now < 2 ^ 32 }
+    requires room_behind { next.old + length (first_values ways.now) < 2 ^ 32 }
 
     ensures phis { IfOk result (λ r. r.0.items ≡ phis_for (ways_differ ways.now) ways.now kinds.now 0 next.old) }
     ensures state { IfOk result (λ r. r.1 ≡ record { block = block; values = values_for (ways_differ ways.now) (first_values ways.now) 0 next.old }) }
     ensures after { IfOk result (λ r. next.new ≡ next.old + length r.0.items) }
 
-    // After the phis taken from a way, the state's operands hold what the way's held.
-    ensures carries { IfOk result (λ r. All (λ way. Carries r.0.items kinds.now way r.1.values) ways.now) }
+    // After the phis taken from a way, the state's operands hold what the way's held: of ways from blocks of their
+    // own, with an operand for each cell.
+    ensures carries { HaveOwnBlocks ways.now → All (IsWay (length kinds.now) next.old) ways.now
+        → IfOk result (λ r. All (λ way. Carries r.0.items kinds.now way r.1.values) ways.now) }
     ensures registers { IfOk result (λ r. CountsFrom next.old (map (λ p. p.register) r.0.items)) }
     // The entries of each phi name the ways' blocks, in their order.
     ensures entries { IfOk result (λ r. All (λ p. map (λ e. e.1) p.entries ≡ map (λ w. w.block) ways.now) r.0.items) }
@@ -41,8 +44,10 @@ pub fn join_phis(
     ensures err { OnErr result (next.new ≡ next.old) }
 {
     match ways {
-        [first, rest @ ..] => {
-            let (phis, values) = place_phis(alloc, None, first, rest, kinds, next)?;
+        [first, ..] => {
+            let phis = place_phis(alloc, None, ways, kinds, *next)?;
+            let values = place_values(alloc, None, ways, &first.values, *next)?;
+            *next += phis.len() as u32;
             Ok((phis, CellState { block, values }))
         }
         [] => unreachable!(),
@@ -60,73 +65,105 @@ pub fn header_phis(
     next: &mut u32,
 ) -> Result<(Vec<Phi>, CellState), NoMemory>
     requires ascends { IsStrictlyIncreasing cells.now }
-    requires within { All (λ c. c < length kinds.now) cells.now }
-    requires fit { IsWay (length kinds.now) next.old entry.now }
     requires room { next.old + length kinds.now < 2 ^ 32 }
+    requires room_behind { next.old + length entry.now.values < 2 ^ 32 }
 
     ensures phis { IfOk result (λ r. r.0.items ≡ phis_for (is_listed cells.now) (entry.now ∷ []) kinds.now 0 next.old) }
     ensures state { IfOk result (λ r. r.1 ≡ record { block = block; values = values_for (is_listed cells.now) entry.now.values 0 next.old }) }
     ensures after { IfOk result (λ r. next.new ≡ next.old + length r.0.items) }
 
-    // After the phis taken from the block in front, the state's operands hold what the entry's held.
-    ensures carries { IfOk result (λ r. Carries r.0.items kinds.now entry.now r.1.values) }
+    // After the phis taken from the block in front, the state's operands hold what the entry's held: of an entry with
+    // an operand for each cell.
+    ensures carries { IsWay (length kinds.now) next.old entry.now → IfOk result (λ r. Carries r.0.items kinds.now entry.now r.1.values) }
     ensures registers { IfOk result (λ r. CountsFrom next.old (map (λ p. p.register) r.0.items)) }
     // Each phi has one entry, which names that block.
     ensures entries { IfOk result (λ r. All (λ p. map (λ e. e.1) p.entries ≡ entry.now.block ∷ []) r.0.items) }
 
     ensures err { OnErr result (next.new ≡ next.old) }
 {
-    let (phis, values) = place_phis(alloc, Some(cells), entry, &[], kinds, next)?;
+    let ways = slice::from_ref(entry);
+    let phis = place_phis(alloc, Some(cells), ways, kinds, *next)?;
+    let values = place_values(alloc, Some(cells), ways, &entry.values, *next)?;
+    *next += phis.len() as u32;
     Ok((phis, CellState { block, values }))
 }
 
-/// The phis of these ways, and the operands behind them: in the listed cells, or where no cells are listed, in those
-/// where the ways differ.
+/// The phis of a loop's start, where all ways to it are known: an entry for each way, in their order. They are those of
+/// `header_phis`, with the registers that they have there.
+pub fn start_phis(
+    alloc: Global,
+    ways: &[CellState],
+    cells: &[u32],
+    kinds: &[CellKind],
+    next: u32,
+) -> Result<Vec<Phi>, NoMemory>
+    requires ascends { IsStrictlyIncreasing cells.now }
+    requires room { next + length kinds.now < 2 ^ 32 }
+    ensures { IfOk result (λ phis. phis.items ≡ phis_for (is_listed cells.now) ways.now kinds.now 0 next) }
+{
+    place_phis(alloc, Some(cells), ways, kinds, next)
+}
+
+/// The phis of these ways: of the listed cells, or where no cells are listed, of those where the ways differ.
 fn place_phis(
     alloc: Global,
     cells: Option<&[u32]>,
-    first: &CellState,
-    rest: &[CellState],
+    ways: &[CellState],
     kinds: &[CellKind],
-    next: &mut u32,
-) -> Result<(Vec<Phi>, Vec<Operand>), NoMemory>
-    requires long { length first.now.values ≡ length kinds.now }
+    next: u32,
+) -> Result<Vec<Phi>, NoMemory>
     requires rises { RisesIf (option_copied cells) }
-    requires room { next.old + length kinds.now < 2 ^ 32 }
-
-    ensures phis { IfOk result (λ r. r.0.items ≡ phis_for (needs_of (option_copied cells.entry) (first.now ∷ rest.now)) (first.now ∷ rest.now) kinds.now 0 next.old) }
-    ensures values { IfOk result (λ r. r.1.items ≡ values_for (needs_of (option_copied cells.entry) (first.now ∷ rest.now)) first.now.values 0 next.old) }
-    ensures after { IfOk result (λ r. next.new ≡ next.old + length r.0.items) }
-    ensures err { OnErr result (next.new ≡ next.old) }
+    requires room { next + length kinds.now < 2 ^ 32 }
+    ensures phis { IfOk result (λ r. r.items ≡ phis_for (needs_of (option_copied cells.entry) ways.now) ways.now kinds.now 0 next) }
+    ensures few { IfOk result (λ r. length r.items ≤ length kinds.now) }
 {
     let mut phis = Vec::new(alloc);
-    let mut values = Vec::new(alloc);
-    let mut free = *next;
+    let mut free = next;
     for c in 0..kinds.len() {
-        if needs_phi(cells, first, rest, c as u32) {
-            let entries = entries(alloc, first, rest, c)?;
-            let number = is_number(kinds[c]);
+        if needs_phi(cells, ways, c as u32) {
+            let entries = entries(alloc, ways, c)?;
             phis.push(Phi {
                 register: free,
-                number,
+                number: is_number(kinds[c]),
                 entries,
             })?;
+            free += 1;
+        }
+    }
+    Ok(phis)
+}
+
+/// The operands behind those phis, where the first way has these.
+fn place_values(
+    alloc: Global,
+    cells: Option<&[u32]>,
+    ways: &[CellState],
+    first: &Operands,
+    next: u32,
+) -> Result<Operands, NoMemory>
+    requires rises { RisesIf (option_copied cells) }
+    requires room { next + length first.now < 2 ^ 32 }
+    ensures { IfOk result (λ r. r ≡ values_for (needs_of (option_copied cells.entry) ways.now) first.now 0 next) }
+{
+    let mut values = Vec::new(alloc);
+    let mut free = next;
+    for c in 0..first.len() {
+        if needs_phi(cells, ways, c as u32) {
             values.push(Operand::Register(free))?;
             free += 1;
         } else {
-            values.push(operand_at(first, c))?;
+            values.push(first.get(c))?;
         }
     }
-    *next = free;
-    Ok((phis, values))
+    Ok(Operands::new(values))
 }
 
-fn needs_phi(cells: Option<&[u32]>, first: &CellState, rest: &[CellState], c: u32) -> bool
+fn needs_phi(cells: Option<&[u32]>, ways: &[CellState], c: u32) -> bool
     requires { RisesIf (option_copied cells) }
-    ensures { result ≡ needs_of (option_copied cells.entry) (first.now ∷ rest.now) c }
+    ensures { result ≡ needs_of (option_copied cells.entry) ways.now c }
 {
     match cells {
-        None => !all_same(operand_at(first, c as usize), rest, c as usize),
+        None => ways_differ(ways, c as usize),
         Some(cells) => is_listed(cells, c),
     }
 }
@@ -140,12 +177,22 @@ fn is_listed(cells: &[u32], c: u32) -> bool
     cells.binary_search(&c).is_ok()
 }
 
+/// Whether two ways have different operands in a cell.
+fn ways_differ(ways: &[CellState], c: usize) -> bool
+    ensures { result ≡ ways_differ ways.now c }
+{
+    match ways {
+        [first, rest @ ..] => !all_same(first.values.get(c), rest, c),
+        [] => false,
+    }
+}
+
 /// Whether each way has this operand in a cell.
 fn all_same(operand: Operand, ways: &[CellState], c: usize) -> bool
     ensures { result ≡ all_same operand ways.now c }
 {
     for way in ways {
-        if operand_at(way, c) != operand {
+        if way.values.get(c) != operand {
             return false;
         }
     }
@@ -164,27 +211,14 @@ fn is_number(kind: CellKind) -> bool
 /// What the ways have in a cell.
 fn entries(
     alloc: Global,
-    first: &CellState,
-    rest: &[CellState],
+    ways: &[CellState],
     c: usize,
 ) -> Result<Sequence<(Operand, u32)>, NoMemory>
-    ensures { IfOk result (λ r. r ≡ entries_of (first.now ∷ rest.now) c) }
+    ensures { IfOk result (λ r. r ≡ entries_of ways.now c) }
 {
     let mut items = Vec::new(alloc);
-    items.push((operand_at(first, c), first.block))?;
-    for way in rest {
-        items.push((operand_at(way, c), way.block))?;
+    for way in ways {
+        items.push((way.values.get(c), way.block))?;
     }
     Ok(Sequence { items })
-}
-
-/// Where a way has a cell.
-fn operand_at(way: &CellState, c: usize) -> Operand
-    ensures { result ≡ operand_at way.now c }
-{
-    if c < way.values.len() {
-        way.values[c]
-    } else {
-        Operand::Fixed(0)
-    }
 }

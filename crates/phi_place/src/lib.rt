@@ -13,10 +13,12 @@
 mod cells;
 mod join;
 pub mod laws;
+mod operands;
 mod state;
 #[cfg(test)]
 mod tests;
 
 pub use cells::assigned;
-pub use join::{header_phis, join_phis};
+pub use join::{header_phis, join_phis, start_phis};
+pub use operands::Operands;
 pub use state::CellState;

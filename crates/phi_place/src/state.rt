@@ -1,13 +1,13 @@
 //! Where the cells are at the end of a block.
 
-use qir_module::Operand;
+use crate::operands::Operands;
 use std::marker::Model;
 
 /// The operands of the cells at the end of a block, or behind the phis of one: one for each cell.
 #[derive(Debug, Drop)]
 pub struct CellState {
     pub block: u32,
-    pub values: Vec<Operand>,
+    pub values: Operands,
 }
 
 impl Model for CellState {
@@ -15,5 +15,5 @@ impl Model for CellState {
 
     ghost Value = { CellStateValue };
 
-    ghost view = { λ s. record { block = s.block; values = s.values.items } };
+    ghost view = { λ s. record { block = s.block; values = s.values } };
 }

@@ -1,6 +1,6 @@
 //! A core and ways that are written out by hand.
 
-use crate::{CellState, assigned, header_phis, join_phis};
+use crate::{CellState, Operands, assigned, header_phis, join_phis};
 use core_ir::{Body, CellKind, Core, CoreExpr, CoreStmt, Pairs};
 use qir_module::Operand;
 use qq_base::QubitId;
@@ -45,11 +45,11 @@ fn ways_are_joined(rt: HostRuntime) -> Result<(), Fail> {
     let alloc = rt.alloc();
     let left = CellState {
         block: 1,
-        values: vec![in alloc; Operand::Fixed(0), Operand::Register(3)]?,
+        values: Operands::new(vec![in alloc; Operand::Fixed(0), Operand::Register(3)]?),
     };
     let right = CellState {
         block: 2,
-        values: vec![in alloc; Operand::Fixed(1), Operand::Register(3)]?,
+        values: Operands::new(vec![in alloc; Operand::Fixed(1), Operand::Register(3)]?),
     };
     let mut next = 4;
     let kinds = [CellKind::Number, CellKind::Truth];
