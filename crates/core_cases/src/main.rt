@@ -1,5 +1,5 @@
 // Works single calls of the layers between a core and its blocks: the table of the cases of `lower_expr`, `assigned`,
-// `join_phis` and `header_phis`. It is no part of the product.
+// `join_phis`, `header_phis` and `start_phis`. It is no part of the product.
 //
 // Standard input is cases, one a line: a word, and fields with ` | ` between two. Each case is shown with its answer. The
 // first field lists the cells: of each its kind, `n` for a word or `t` for a truth value. An operand is `%` and the number
@@ -13,6 +13,7 @@
 // - `join`: cells; the ways with `, ` between two, each a block and its operands; the block and the next register. The
 //   answer is the phis, then behind `->` the block, its operands and the next register.
 // - `open`: the same with one way, and with a field for the listed cells behind it.
+// - `start`: the same with all ways to a loop's start, without the block; the answer is the phis.
 //
 // It stands on `expr_lower` and `phi_place`.
 #![tactic(auto)]
@@ -25,10 +26,10 @@ use anyhow::{Context, Result, bail};
 use core_ir::{CellKind, Core, CoreExpr};
 use expr_lower::laws::few_are_reached;
 use expr_lower::lower_expr;
-use meets::{are_cells, are_ways, are_within, ascend, has_room, have_own_blocks, is_safe, is_way};
-use phi_place::{assigned, header_phis, join_phis};
+use meets::{are_within, ascend, can_join, has_room};
+use phi_place::{assigned, header_phis, join_phis, start_phis};
 use read::{exprs, kinds, number, numbers, placed_cells, statements, way, ways};
-use show::{shown_code, shown_numbers, shown_operands, shown_state};
+use show::{shown_code, shown_numbers, shown_operands, shown_phis, shown_state};
 use std::alloc::Global;
 use std::io;
 
@@ -56,6 +57,7 @@ fn answer(alloc: Global, case: &str) -> Result<String> {
         ("open", [cells, entry, listed, block, next]) => {
             open_loop(alloc, cells, entry, listed, block, next)
         }
+        ("start", [cells, all, listed, next]) => start(alloc, cells, all, listed, next),
         _ => bail!("no case"),
     }
 }
@@ -75,9 +77,7 @@ fn lower(alloc: Global, cells: &str, nodes: &str, wanted: &str, next: &str) -> R
     let wanted = numbers(alloc, wanted)?;
     let mut next = number(next)?;
     if !core.well_formed()
-        || !is_safe(&core.exprs)
         || !are_within(&wanted, core.exprs.len())
-        || !are_cells(&core.cells, next, &operands)
         || !has_room(next, core.exprs.len())
     {
         bail!("a case that is not allowed");
@@ -125,11 +125,7 @@ fn join(alloc: Global, cells: &str, all: &str, block: &str, next: &str) -> Resul
     let all = ways(alloc, all)?;
     let block = number(block)?;
     let mut next = number(next)?;
-    if all.is_empty()
-        || !have_own_blocks(&all)
-        || !are_ways(kinds.len(), next, &all)
-        || !has_room(next, kinds.len())
-    {
+    if !can_join(next, &all) || !has_room(next, kinds.len()) {
         bail!("a case that is not allowed");
     }
     match join_phis(alloc, &all, &kinds, block, &mut next) {
@@ -152,15 +148,26 @@ fn open_loop(
     let listed = numbers(alloc, listed)?;
     let block = number(block)?;
     let mut next = number(next)?;
-    if !ascend(&listed)
-        || !are_within(&listed, kinds.len())
-        || !is_way(kinds.len(), next, &entry)
-        || !has_room(next, kinds.len())
-    {
+    if !ascend(&listed) || !has_room(next, kinds.len()) || !has_room(next, entry.values.len()) {
         bail!("a case that is not allowed");
     }
     match header_phis(alloc, &entry, &listed, &kinds, block, &mut next) {
         Ok((phis, state)) => shown_state(alloc, &phis, &state, next),
+        Err(_) => bail!("no memory"),
+    }
+}
+
+/// The phis of a loop's start with all its ways.
+fn start(alloc: Global, cells: &str, all: &str, listed: &str, next: &str) -> Result<String> {
+    let kinds = kinds(alloc, cells)?;
+    let all = ways(alloc, all)?;
+    let listed = numbers(alloc, listed)?;
+    let next = number(next)?;
+    if !ascend(&listed) || !has_room(next, kinds.len()) {
+        bail!("a case that is not allowed");
+    }
+    match start_phis(alloc, &all, &listed, &kinds, next) {
+        Ok(phis) => shown_phis(alloc, &phis),
         Err(_) => bail!("no memory"),
     }
 }

@@ -2,7 +2,7 @@
 
 use anyhow::{Context, Result, bail};
 use core_ir::{Body, CellKind, CoreExpr, CoreOp, CoreStmt, GateArg, LeafCall, Pairs};
-use phi_place::CellState;
+use phi_place::{CellState, Operands};
 use qir_module::Operand;
 use qq_base::{GateId, QubitId};
 use std::alloc::Global;
@@ -65,9 +65,12 @@ pub fn way(alloc: Global, text: &str) -> Result<CellState> {
     for word in rest.split_whitespace() {
         values.push(operand(word)?)?;
     }
+    if values.len() > 1_000_000 {
+        bail!("too many cells");
+    }
     Ok(CellState {
         block: number(block)?,
-        values,
+        values: Operands::new(values),
     })
 }
 

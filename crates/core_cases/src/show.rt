@@ -99,8 +99,7 @@ fn shown_phi(alloc: Global, phi: &Phi) -> Result<String> {
     Ok(text)
 }
 
-/// Phis, and the state behind them.
-pub fn shown_state(alloc: Global, phis: &[Phi], state: &CellState, next: u32) -> Result<String> {
+pub fn shown_phis(alloc: Global, phis: &[Phi]) -> Result<String> {
     let mut text = String::new(alloc);
     for phi in phis {
         if !text.is_empty() {
@@ -109,7 +108,13 @@ pub fn shown_state(alloc: Global, phis: &[Phi], state: &CellState, next: u32) ->
         let one = shown_phi(alloc, phi)?;
         text.push_str(&one)?;
     }
+    Ok(text)
+}
+
+/// Phis, and the state behind them.
+pub fn shown_state(alloc: Global, phis: &[Phi], state: &CellState, next: u32) -> Result<String> {
+    let phis = shown_phis(alloc, phis)?;
     let block = state.block;
-    let operands = shown_operands(alloc, &state.values)?;
-    Ok(format!(in alloc; "{text} -> b{block}{operands}, next {next}")?)
+    let operands = shown_operands(alloc, state.values.as_slice())?;
+    Ok(format!(in alloc; "{phis} -> b{block}{operands}, next {next}")?)
 }
