@@ -34,7 +34,7 @@ use Rattle.block_graph.proofs.Moving.{IsValid, Grows, Settles, settles_left, set
 use Rattle.block_graph.proofs.Emitting.{kind_within, pairs_within, leaf_within, now_of, coded}
 use Rattle.block_graph.proofs.Choosing.{fallen}
 use Rattle.block_graph.proofs.Whole.{open_end_valid, open_loop_valid, open_first_valid, open_second_valid, levels_same, body_emits, emits, first_valid, program_fits}
-use Rattle.block_graph.proofs.Ordering.{lates_grow, bodies_lates, fall_lates, leave_lates, close_end_lates, loop_lates, one_longer, end_none, end_lates}
+use Rattle.block_graph.proofs.Walking.{lates_grow, bodies_lates, fall_lates, leave_lates, close_end_lates, loop_lates, one_longer, late_phis, end_none, program_settles}
 use Rattle.block_graph.proofs.Sizing.{none_sum, count_less, phis_many, phis_entries, times_less, stores_assigns, ones, code_work, one_work, Adds, adds_none, adds_more, code_adds, close_adds, jump_adds, open_adds, join_adds, paid_way}
 
 -- ---- what is open where
@@ -232,8 +232,8 @@ module _ (carry : WaysCarry) (keep : SameWhereNotDiffer) (core : Core) (coder : 
       }
 
   -- the phis at the start of a loop, in the end
-  late_phis : (kinds : List CellKind) (needs : ℕ → Bool) (w : Work) (v : Work) (es : List Level) (hd : Level) (ks : List Level) → length w.lates < length v.lates → Settles w.lates (close_end kinds es (close_start kinds needs (length w.lates) w.next (hd ∷ ks) v)).lates lates [] → lates (length w.lates) ≡ phis_for needs hd.ways kinds 0 w.next
-  late_phis kinds needs w v es hd ks lt st =
+  pub start_phis : (kinds : List CellKind) (needs : ℕ → Bool) (w : Work) (v : Work) (es : List Level) (hd : Level) (ks : List Level) → length w.lates < length v.lates → Settles w.lates (close_end kinds es (close_start kinds needs (length w.lates) w.next (hd ∷ ks) v)).lates lates [] → lates (length w.lates) ≡ phis_for needs hd.ways kinds 0 w.next
+  start_phis kinds needs w v es hd ks lt st =
       let x = close_start kinds needs (length w.lates) w.next (hd ∷ ks) v in
       let ps = phis_for needs hd.ways kinds 0 w.next in
       let st' : Settles w.lates x.lates lates [] = subst (λ (t : List (List Phi)). Settles w.lates t lates []) (close_end_lates kinds es x) st in
@@ -253,7 +253,7 @@ module _ (carry : WaysCarry) (keep : SameWhereNotDiffer) (core : Core) (coder : 
       let v = leave_zero u in
       let first = phis_for needs (way_of w o ∷ []) core.cells 0 w.next in
       let within : length w.lates < length v.lates = omega (arith, one_longer w.lates first, em.moves.lates.long) in
-      let late = late_phis core.cells needs w v (l ∷ ls) hd ks within se in
+      let late = start_phis core.cells needs w v (l ∷ ls) hd ks within se in
       let mid : Work = record w { done = w.done ++ closed o (Jump (length w.targets)) ∷ []; now = None } in
       let h : Open = record { phis = Late (length w.lates); body = []; values = values_for needs o.values 0 w.next } in
       let a1 = jump_adds lates w mid o (Jump (length w.targets)) is refl refl in
@@ -416,11 +416,11 @@ module _ (carry : WaysCarry) (keep : SameWhereNotDiffer) (core : Core) (coder : 
         record { items = omega (arith, i, pe, ph); phis = omega (arith, r.phis, a6.phis, a7.phis, ch.joins); calls = omega (arith, r.calls, a6.calls, a7.calls, ch.called); blocks = omega (arith, r.blocks, a6.blocks, a7.blocks, ch.knotted, k3) }
 
   -- the settled late phis of the two bodies
-  record BothSettle (w v g u : Work) : Type 0 where
-    first : Settles w.lates v.lates lates []
-    second : Settles g.lates u.lates lates []
+  pub record BothSettle (w v g u : Work) : Type 0 where
+    pub first : Settles w.lates v.lates lates []
+    pub second : Settles g.lates u.lates lates []
 
-  both_settle : (a b : Stmt) (w one : Work) (label : ℕ) (values : List Operand) → one.lates ≡ w.lates → Settles w.lates (two_bodies core.cells label values (lower_of core coder a one) (lower_of core coder b)).lates lates []
+  pub both_settle : (a b : Stmt) (w one : Work) (label : ℕ) (values : List Operand) → one.lates ≡ w.lates → Settles w.lates (two_bodies core.cells label values (lower_of core coder a one) (lower_of core coder b)).lates lates []
       → BothSettle w (lower_of core coder a one) (open_second (label + 1) values (fall_work (label + 2) (lower_of core coder a one))) (lower_of core coder b (open_second (label + 1) values (fall_work (label + 2) (lower_of core coder a one))))
   both_settle a b w one label values e st =
       let v = lower_of core coder a one in
@@ -437,14 +437,14 @@ module _ (carry : WaysCarry) (keep : SameWhereNotDiffer) (core : Core) (coder : 
       }
 
   -- the second body begins well
-  second_valid : (test : ℕ) (a : Stmt) (holds : Bool) (w : Work) (o : Open) → w.now ≡ Some o → IsValid core.cells w → Emits core a (open_first coder holds test w o) (lower_of core coder a (open_first coder holds test w o)) → IsValid core.cells (open_second (length w.targets + 1) o.values (fall_work (length w.targets + 2) (lower_of core coder a (open_first coder holds test w o))))
+  pub second_valid : (test : ℕ) (a : Stmt) (holds : Bool) (w : Work) (o : Open) → w.now ≡ Some o → IsValid core.cells w → Emits core a (open_first coder holds test w o) (lower_of core coder a (open_first coder holds test w o)) → IsValid core.cells (open_second (length w.targets + 1) o.values (fall_work (length w.targets + 2) (lower_of core coder a (open_first coder holds test w o))))
   second_valid test a holds w o is ok ea =
       let v = lower_of core coder a (open_first coder holds test w o) in
       let fell = fallen core.cells (length w.targets + 2) v v.now refl ea.valid in
       let more : w.next ≤ w.next + length (coder (test ∷ []) o.values w.next).code = omega arith in
       open_second_valid core.cells (length w.targets + 1) w.next o.values (fall_work (length w.targets + 2) v) (now_of core.cells w o is ok) (omega (arith, fell.next, ea.moves.next, more)) fell.valid
 
-  second_levels : (test : ℕ) (a b : Stmt) (holds : Bool) (w : Work) (o : Open) → Emits core a (open_first coder holds test w o) (lower_of core coder a (open_first coder holds test w o)) → HasLevels b (length w.ends) (length w.starts)
+  pub second_levels : (test : ℕ) (a b : Stmt) (holds : Bool) (w : Work) (o : Open) → Emits core a (open_first coder holds test w o) (lower_of core coder a (open_first coder holds test w o)) → HasLevels b (length w.ends) (length w.starts)
       → HasLevels b (length (fall_work (length w.targets + 2) (lower_of core coder a (open_first coder holds test w o))).ends) (length (fall_work (length w.targets + 2) (lower_of core coder a (open_first coder holds test w o))).starts)
   second_levels test a b holds w o ea l =
       let v = lower_of core coder a (open_first coder holds test w o) in
@@ -593,14 +593,21 @@ ended_adds lates outputs v (Some o) is =
     record { items = omega (arith, a.items, m); phis = omega (arith, a.phis); calls = omega (arith, a.calls, z); blocks = omega (arith, a.blocks) }
 
 -- the first block, with the call that initializes
-record IsSmall (lates : ℕ → List Phi) (w : Work) : Type 0 where
-  items : items_in lates w ≡ 3
-  phis : phis_counted lates w ≡ 0
-  calls : calls_in lates w ≡ 0
-  blocks : blocks_in lates w ≡ 1
+pub record IsSmall (lates : ℕ → List Phi) (w : Work) : Type 0 where
+  pub items : items_in lates w ≡ 3
+  pub phis : phis_counted lates w ≡ 0
+  pub calls : calls_in lates w ≡ 0
+  pub blocks : blocks_in lates w ≡ 1
 
-first_small : (lates : ℕ → List Phi) (cells : ℕ) → IsSmall lates (first_work cells)
+pub first_small : (lates : ℕ → List Phi) (cells : ℕ) → IsSmall lates (first_work cells)
 first_small lates cells = record { items = refl; phis = refl; calls = refl; blocks = refl }
+
+-- up to the end of the program
+pub program_grown : WaysCarry → SameWhereNotDiffer → (core : Core) (coder : Coder) → IsLowerable core coder → Grown (late_phis core coder) (length core.cells) core.exprs (program_of core) begin [] [] (first_work (length core.cells)) (lower_of core coder (program_of core) (first_work (length core.cells)))
+program_grown carry keep core coder l =
+    let w = first_work (length core.cells) in
+    let stands : Stands core coder l.coder_fits begin w = record { reached = λ o e. refl; cells = λ c. inl (zero_at (length core.cells) c) } in
+    grows carry keep core coder l.coder_fits (late_phis core coder) (program_of core) w begin [] [] (program_fits core l.fits l.held) l.fits.well_formed.levels (first_valid core.cells) stands (program_settles core coder)
 
 pub is_within : WaysCarry → SameWhereNotDiffer → (core : Core) (coder : Coder) → IsLowerable core coder → IsWithin core (lowered core coder)
 is_within carry keep core coder l =
@@ -608,11 +615,8 @@ is_within carry keep core coder l =
     let v = lower_of core coder (program_of core) w in
     let z = whole_work core coder in
     let labels : ℕ → ℕ = λ k. get_or z.targets k 0 in
-    let lates : ℕ → List Phi = λ k. get_or z.lates k [] in
-    let fit = program_fits core l.fits l.held in
-    let settles : Settles [] v.lates lates [] = record { by = λ k le lt. ap (λ (t : List (List Phi)). get_or t k []) (end_lates core.outputs v v.now) } in
-    let stands : Stands core coder l.coder_fits begin w = record { reached = λ o e. refl; cells = λ c. inl (zero_at (length core.cells) c) } in
-    let g = grows carry keep core coder l.coder_fits lates (program_of core) w begin [] [] fit l.fits.well_formed.levels (first_valid core.cells) stands settles in
+    let lates = late_phis core coder in
+    let g = program_grown carry keep core coder l in
     let a = ended_adds lates core.outputs v v.now refl in
     let none : z.now ≡ None = end_none core.outputs v v.now refl in
     let s = first_small lates (length core.cells) in

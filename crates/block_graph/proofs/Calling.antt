@@ -131,7 +131,7 @@ unused_units core cells (a ∷ args) (suc k) zero le lr fit = absurd (omega (ari
 unused_units core cells (a ∷ args) (suc k) (suc r) le lr fit =
     ap (λ (x : GateArg). units_of core.exprs cells x ∷ map (units_of core.exprs cells) args) fit.0 ∙ ap (λ zs. pos 0 ∷ zs) (unused_units core cells args k r (omega (arith, le)) (omega (arith, lr)) fit.1)
 
-unused_args : (core : Core) (args : List GateArg) (operands : List Operand) → ArgsFit core 0 args → unit_args args operands ≡ []
+pub unused_args : (core : Core) (args : List GateArg) (operands : List Operand) → ArgsFit core 0 args → unit_args args operands ≡ []
 unused_args core [] operands fit = refl
 unused_args core (a ∷ args) operands fit = ap (λ (x : GateArg). unit_args (x ∷ args) operands) fit.0 ∙ unused_args core args operands fit.1
 

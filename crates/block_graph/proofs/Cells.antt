@@ -2,7 +2,9 @@
 use Rattle.std.proofs.Common.{◌≡◌, ◌≢◌, ℕ, zero, suc, ◌+◌, ◌<◌, ◌≤◌, inl, ⊎_elim, nat_eq, if◌then◌else◌, Bool, true, false, not, List, [], ◌∷◌, ◌++◌, length, pos, Some, refl, sym, ap, ◌∙◌, subst, arith, length-set, get_or-set_same, get_or-set_other, eq-eqb, eqb-true, replicate}
 use Rattle.std.specs.Prelude.{slice_get, slice_set}
 use Rattle.std.specs.List.{AllByRecursion}
+use Rattle.std.proofs.lemmas.Int.{fits_signed_from_abs}
 use Rattle.std.proofs.lemmas.Option.{slice_get_within}
+use Rattle.std.specs.Int.{w64}
 use Rattle.std.proofs.lemmas.List.{length-replicate}
 use Rattle.std.proofs.lemmas.List.Elements.{recursion_from_All, All-from_recursion}
 use Rattle.qir_module.specs.declared.instruction.Operand.{Operand}
@@ -85,7 +87,7 @@ zero_below (suc n) x = (tt, zero_below n x)
 
 zero_typed : (truth : Bool) → IsTyped AnyRegister truth (Fixed (pos 0))
 zero_typed true = inl refl
-zero_typed false = tt
+zero_typed false = fits_signed_from_abs w64 (pos 0) (omega arith)
 
 pub first_cells : (kinds : List CellKind) (x : ℕ) → AreCells kinds x (replicate (length kinds) (Fixed (pos 0)))
 first_cells kinds x = record {

@@ -17,7 +17,8 @@ use Rattle.phi_place.specs.State.{CellState}
 use Rattle.phi_place.specs.Phis.{Carries, WaysCarry, SameWhereNotDiffer}
 use Rattle.expr_lower.specs.Lowered.{AreCells, IsLowered}
 use Rattle.block_graph.specs.Work.{PhiPart, Ready, Draft, Level, Open, Work}
-use Rattle.block_graph.specs.Lowering.{Coded, Coder, IsCoder, first_operand, opened, closed, close, when_open, way_of, join_work, branch_last, open_first, fall_work, fall_ways, open_second, join_bodies, settled_phis, settled_last}
+use Rattle.expr_lower.specs.Coded.{Coded}
+use Rattle.block_graph.specs.Lowering.{Coder, IsCoder, first_operand, opened, closed, close, when_open, way_of, join_work, branch_last, open_first, fall_work, fall_ways, open_second, join_bodies, settled_phis, settled_last}
 use Rattle.block_graph.specs.Stretch.{Place, Computes, Leads, Joins, Merges, Low}
 use Rattle.block_graph.proofs.Cells.{WaysFit, ways_more, ways_last}
 use Rattle.block_graph.proofs.Moving.{levels_more, stand_more, IsValid, SameLevels, same_levels, Grows, grows_refl, grows_then, settles_left, settles_right, EndGoes, end_less, end_rest, ends_less, starts_less, now_phis, draft_phis, map_push, Moves, moves_refl, moves_longer, MovesBelow, below_from, below_to, below_then, Stand, get_left, get_end, stand_less, IsFinal, StandsAt, StandsIf, LowFrom, Emits}

@@ -27,10 +27,10 @@ use Rattle.block_graph.proofs.Emitting.{now_of, jump_place, closed_at, pushed, J
 place_same : (p q : Place) → p.block ≡ q.block → p.rest ≡ q.rest → p.last ≡ q.last → p.values ≡ q.values → p ≡ q
 place_same p q a b c d = ap (λ (x : ℕ). record p { block = x }) a ∙ ap (λ (x : List Instr). record p { block = q.block; rest = x }) b ∙ ap (λ (x : Last). record p { block = q.block; rest = q.rest; last = x }) c ∙ ap (λ (x : List Operand). record q { values = x }) d
 
-some_block : (x y : ModuleBlock) → Some x ≡ Some y → x ≡ y
+pub some_block : (x y : ModuleBlock) → Some x ≡ Some y → x ≡ y
 some_block x y e = cc e
 
-drafted : (xs : List Draft) (k : ℕ) (ps : PhiPart) → slice_get (map draft_phis xs) k ≡ Some ps → (d : Draft) × (slice_get xs k ≡ Some d) × (d.phis ≡ ps)
+pub drafted : (xs : List Draft) (k : ℕ) (ps : PhiPart) → slice_get (map draft_phis xs) k ≡ Some ps → (d : Draft) × (slice_get xs k ≡ Some d) × (d.phis ≡ ps)
 drafted [] k ps e = absurd (cc e)
 drafted (x ∷ xs) zero ps e = (x, refl, cc e)
 drafted (x ∷ xs) (suc k) ps e = drafted xs k ps e

@@ -38,12 +38,12 @@ use Rattle.block_graph.proofs.Calling.{gate_effect, record_effect}
 abbrev pub names_of : List ModuleBlock → List ℕ
 names_of blocks = map (λ (b : ModuleBlock). b.name) blocks
 
-block_name : (j : ℕ) (blocks : List ModuleBlock) (i : ℕ) (b : ModuleBlock) → CountsFrom j (names_of blocks) → slice_get blocks i ≡ Some b → b.name ≡ j + i
+pub block_name : (j : ℕ) (blocks : List ModuleBlock) (i : ℕ) (b : ModuleBlock) → CountsFrom j (names_of blocks) → slice_get blocks i ≡ Some b → b.name ≡ j + i
 block_name j [] i b c e = absurd (cc e)
 block_name j (x ∷ blocks) zero b c e = let same : x ≡ b = cc e in let z : j ≡ j + 0 = omega arith in ap (λ (y : ModuleBlock). y.name) (sym same) ∙ c.0 ∙ z
 block_name j (x ∷ blocks) (suc i) b c e = let z : suc j + i ≡ j + suc i = omega arith in block_name (suc j) blocks i b c.1 e ∙ z
 
-block_place : (j : ℕ) (blocks : List ModuleBlock) (name : ℕ) → CountsFrom j (names_of blocks) → j ≤ name → name < j + length blocks → place_from j blocks name ≡ Some name
+pub block_place : (j : ℕ) (blocks : List ModuleBlock) (name : ℕ) → CountsFrom j (names_of blocks) → j ≤ name → name < j + length blocks → place_from j blocks name ≡ Some name
 block_place j [] name c le lt = absurd (omega (arith, le, lt))
 block_place j (b ∷ blocks) name c le lt = at (nat_eq b.name name) refl (λ later. block_place (suc j) blocks name c.1 later (omega (arith, lt)))
   where

@@ -130,7 +130,7 @@ module _ (carry : WaysCarry) (keeps : SameWhereNotDiffer) (core : Core) (coder :
 
 -- ---- the program
 
-settled_get : (labels : ℕ → ℕ) (lates : ℕ → List Phi) (j : ℕ) (ds : List Draft) (k : ℕ) (d : Draft) → slice_get ds k ≡ Some d → slice_get (settled_from labels lates j ds) k ≡ Some (settled labels lates (j + k) d)
+pub settled_get : (labels : ℕ → ℕ) (lates : ℕ → List Phi) (j : ℕ) (ds : List Draft) (k : ℕ) (d : Draft) → slice_get ds k ≡ Some d → slice_get (settled_from labels lates j ds) k ≡ Some (settled labels lates (j + k) d)
 settled_get labels lates j [] k d e = absurd (cc e)
 settled_get labels lates j (x ∷ ds) zero d e = let same : x ≡ d = cc e in let z : j ≡ j + 0 = omega arith in ap (λ (y : Draft). Some (settled labels lates j y)) same ∙ ap (λ (n : ℕ). Some (settled labels lates n d)) z
 settled_get labels lates j (x ∷ ds) (suc k) d e = let z : suc j + k ≡ j + suc k = omega arith in settled_get labels lates (suc j) ds k d e ∙ ap (λ (n : ℕ). Some (settled labels lates n d)) z

@@ -3,8 +3,6 @@
 use Rattle.std.specs.Prelude.{◌≡◌, ℕ, ◌<◌, ◌^◌, List, length, All, FitsSigned}
 use Rattle.std.specs.Int.{w64}
 use Rattle.qir_module.specs.Module.{IsByte}
-use Rattle.core_ir.specs.declared.expression.CoreExpr.{CoreExpr}
-use Rattle.core_ir.specs.declared.expression.CoreExpr.TheVariants.{Number as NumberNode}
 use Rattle.core_ir.specs.declared.statement.GateArg.{GateArg}
 use Rattle.core_ir.specs.declared.statement.GateArg.TheVariants.{Units}
 use Rattle.core_ir.specs.declared.statement.LeafCall.{LeafCall}
@@ -13,12 +11,9 @@ use Rattle.core_ir.specs.declared.statement.CoreStmt.TheVariants.{Gate as GateNo
 use Rattle.core_ir.specs.declared.program.Output.{Output}
 use Rattle.core_ir.specs.declared.program.Output.TheVariants.{Array as ArrayOutput}
 use Rattle.core_ir.specs.Core.{Core}
+use Rattle.expr_lower.specs.Lowered.{IsHeldExpr}
 
--- a word is a whole number of 64 bits with sign
-abbrev pub IsHeldExpr : CoreExpr → Type 0
-IsHeldExpr (NumberNode z) = FitsSigned w64 z
-IsHeldExpr _ = Unit {0}
-
+-- the angle of a gate is a whole number of 64 bits with sign
 abbrev pub IsHeldArg : GateArg → Type 0
 IsHeldArg (Units z) = FitsSigned w64 z
 IsHeldArg _ = Unit {0}

@@ -1,17 +1,26 @@
 -- For private contracts only: what is claimed of the graph while it is made. Each claim is kept by every statement, and is
 -- proved by an induction of its own. The claims on the run are with their lemmas.
-use Rattle.std.specs.Prelude.{◌≡◌, ℕ, ◌+◌, ◌*◌, ◌≤◌, List, [], ◌∷◌, ◌++◌, map, length, Option, Some, None}
-use Rattle.std.specs.List.{sum_by, flat_map, AllByRecursion}
+use Rattle.std.specs.Prelude.{◌≡◌, ◌≢◌, ◌⊎◌, ℕ, ◌<◌, ◌+◌, ◌*◌, ◌≤◌, nat_lt, Bool, true, false, List, [], ◌∷◌, ◌++◌, map, length, Option, Some, None}
+use Rattle.std.specs.List.{sum_by, flat_map, list_all, AllByRecursion}
+use Rattle.qir_module.specs.declared.instruction.Arg.{Arg}
+use Rattle.qir_module.specs.declared.instruction.Arg.TheVariants.{Number as NumberArg, Truth as TruthArg, Id as IdArg, Text as TextArg}
 use Rattle.qir_module.specs.declared.instruction.Instr.{Instr}
+use Rattle.qir_module.specs.declared.instruction.Instr.TheVariants.{Op, Zext, Trunc, Select, Call}
+use Rattle.qir_module.specs.declared.instruction.Last.{Last}
+use Rattle.qir_module.specs.declared.instruction.Last.TheVariants.{Jump, Branch, Return}
 use Rattle.qir_module.specs.declared.block.Phi.{Phi}
-use Rattle.qir_module.specs.Numbered.{CountsFrom, registers_of, measured_in, IsNamed, ReadsFollow}
+use Rattle.qir_module.specs.Numbered.{CountsFrom, registers_of, measured_in, functions_of, IsNamed, ReadsFollow}
+use Rattle.qir_module.specs.Spots.{TheInstr}
+use Rattle.qir_module.specs.Passes.{are_distinct, instr_ids, is_qubit, is_result, instr_fits, instr_labels, constants_fit, initializes, is_record}
 use Rattle.core_ir.specs.declared.expression.CoreExpr.{CoreExpr}
+use Rattle.core_ir.specs.Core.{Core}
 use Rattle.core_ir.specs.Size.{weight_of, knots_of, calls_of, joined_of}
 use Rattle.core_ir.specs.Tree.{Stmt}
 use Rattle.core_ir.specs.Ways.{Before}
+use Rattle.expr_lower.specs.Lowered.{IsTyped, Reads}
 use Rattle.block_graph.specs.Laws.{work_in}
 use Rattle.block_graph.specs.Work.{Draft, Level, Open, Work}
-use Rattle.block_graph.specs.Lowering.{settled_phis}
+use Rattle.block_graph.specs.Lowering.{initialize_call, settled_phis}
 
 -- ---- the order of the numbers
 
@@ -33,6 +42,55 @@ phi_registers phis = map (λ (p : Phi). p.register) phis
 abbrev pub no_registers : List Phi → List ℕ
 no_registers phis = []
 
+-- registers below a number
+abbrev pub Below : ℕ → ℕ → Bool → Type 0
+Below next r truth = r < next
+
+-- an argument with registers below a number, and a qubit of the core or a result below another
+abbrev pub IsArgBelow : Core → ℕ → ℕ → Arg → Type 0
+IsArgBelow core next results (NumberArg operand) = IsTyped (Below next) false operand
+IsArgBelow core next results (TruthArg operand) = IsTyped (Below next) true operand
+IsArgBelow core next results (IdArg n) = (n < core.qubits) ⊎ (n < results)
+IsArgBelow core next results (TextArg k) = k < length core.labels
+
+abbrev pub IsBelowIf : ℕ → Option ℕ → Type 0
+IsBelowIf next None = Unit {0}
+IsBelowIf next (Some r) = r < next
+
+abbrev pub IsInstrBelow : Core → ℕ → ℕ → Instr → Type 0
+IsInstrBelow core next results (Op r op truth left right) = (r < next) × Reads (Below next) (Op r op truth left right)
+IsInstrBelow core next results (Zext r from) = (r < next) × Reads (Below next) (Zext r from)
+IsInstrBelow core next results (Trunc r from) = (r < next) × Reads (Below next) (Trunc r from)
+IsInstrBelow core next results (Select r truth test chosen other) = (r < next) × Reads (Below next) (Select r truth test chosen other)
+IsInstrBelow core next results (Call register function args) = IsBelowIf next register × (function.0 < 37) × AllByRecursion (IsArgBelow core next results) args
+
+-- An instruction that keeps the rules on single instructions, and does not initialize: with the core's qubits and labels, and
+-- with registers and results below two numbers.
+pub record IsGoodInstr (core : Core) (next results : ℕ) (i : Instr) : Type 0 where
+  pub below : IsInstrBelow core next results i
+  pub qubits : list_all (λ n. nat_lt n core.qubits) (instr_ids is_qubit i) ≡ true
+  pub apart : are_distinct (instr_ids is_qubit i) ≡ true
+  pub measured : list_all (λ n. nat_lt n results) (instr_ids is_result i) ≡ true
+  pub labels : list_all (λ k. nat_lt k (length core.labels)) (instr_labels i) ≡ true
+  pub fits : instr_fits i ≡ true
+  pub constants : constants_fit i ≡ true
+  pub function : list_all (λ f. nat_lt f 37) (functions_of i) ≡ true
+  pub later : initializes (TheInstr i) ≡ false
+
+abbrev pub body_now : Option Open → List Instr
+body_now None = []
+body_now (Some o) = o.body
+
+-- the instructions so far, in the order of the text
+abbrev pub instrs_in : Work → List Instr
+instrs_in w = flat_map (λ (d : Draft). d.body) w.done ++ body_now w.now
+
+-- the first initializes, and each behind it is good
+pub record InstrsStand (core : Core) (w : Work) : Type 0 where
+  pub more : List Instr
+  pub starts : instrs_in w ≡ initialize_call ∷ more
+  pub good : AllByRecursion (IsGoodInstr core w.next w.results) more
+
 -- measurements and readings name their results, and each reading stands right behind its measurement, whatever is in front
 abbrev pub IsReadInOrder : List Instr → Type 0
 IsReadInOrder body = AllByRecursion IsNamed body × ((measured : List ℕ) → ReadsFollow measured body)
@@ -49,6 +107,16 @@ pub record NumbersInOrder (lates : ℕ → List Phi) (w : Work) : Type 0 where
   pub measured : w.results ≡ length (traced no_registers measured_in lates w)
   pub bodies : AllByRecursion (λ (d : Draft). IsReadInOrder d.body) w.done
   pub body : NowIsReadInOrder w.now
+
+-- no instruction is a record
+abbrev pub AreSilent : List Instr → Type 0
+AreSilent code = AllByRecursion (λ (i : Instr). is_record (TheInstr i) ≡ false) code
+
+-- how a block ends while statements are lowered: the two targets of a branch are two labels, and nothing is returned
+abbrev pub EndsFine : Last → Type 0
+EndsFine (Jump label) = Unit {0}
+EndsFine (Branch test first second) = first ≢ second
+EndsFine (Return code) = ⊥
 
 -- ---- the bounds
 

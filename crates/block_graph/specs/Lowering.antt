@@ -33,15 +33,11 @@ use Rattle.core_ir.specs.Size.{pair_exprs, leaf_exprs}
 use Rattle.cell_operands.specs.Operands.{operand_of}
 use Rattle.phi_place.specs.State.{CellState}
 use Rattle.phi_place.specs.Phis.{same_operand, ways_differ, phis_for, values_for}
+use Rattle.expr_lower.specs.Coded.{Coded}
 use Rattle.expr_lower.specs.Lowered.{AreConstant, AreCells, IsLowered}
 use Rattle.block_graph.specs.Work.{PhiPart, Ready, Late, Draft, Level, Open, Work}
 
 -- ---- expressions
-
--- code that leaves the values of some expressions in operands
-pub record Coded : Type 0 where
-  pub code : List Instr
-  pub operands : List Operand
 
 -- The code of expressions, from the operands of the cells, with the registers from a number on. The lowering is a
 -- function of it, so that it can be read apart from how expressions are done.
