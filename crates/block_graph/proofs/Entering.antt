@@ -111,11 +111,11 @@ names_second : (holds : Bool) (operand : Operand) (label : ℕ) → is_among (ta
 names_second true operand label = or_right (nat_eq (label + 1) label) (nat_eq (label + 1) (label + 1) || false) (or_left (nat_eq (label + 1) (label + 1)) false (eq-eqb (label + 1) (label + 1) refl))
 names_second false operand label = or_left (nat_eq (label + 1) (label + 1)) (nat_eq (label + 1) label || false) (eq-eqb (label + 1) (label + 1) refl)
 
-second_zero : (xs : List ℕ) (a : ℕ) → get_or (xs ++ a ∷ 0 ∷ []) (length xs + 1) 0 ≡ 0
+pub second_zero : (xs : List ℕ) (a : ℕ) → get_or (xs ++ a ∷ 0 ∷ []) (length xs + 1) 0 ≡ 0
 second_zero [] a = refl
 second_zero (x ∷ xs) a = let z : suc (length xs) + 1 ≡ suc (length xs + 1) = omega arith in ap (λ (k : ℕ). get_or (x ∷ (xs ++ a ∷ 0 ∷ [])) k 0) z ∙ second_zero xs a
 
-third_zero : (xs : List ℕ) (a : ℕ) → get_or (xs ++ a ∷ 0 ∷ 0 ∷ []) (length xs + 2) 0 ≡ 0
+pub third_zero : (xs : List ℕ) (a : ℕ) → get_or (xs ++ a ∷ 0 ∷ 0 ∷ []) (length xs + 2) 0 ≡ 0
 third_zero [] a = refl
 third_zero (x ∷ xs) a = let z : suc (length xs) + 2 ≡ suc (length xs + 2) = omega arith in ap (λ (k : ℕ). get_or (x ∷ (xs ++ a ∷ 0 ∷ 0 ∷ [])) k 0) z ∙ third_zero xs a
 

@@ -1,5 +1,7 @@
+pub mod Backing
 pub mod Bounding
 pub mod Calling
+pub mod Carrying
 pub mod Cells
 pub mod Choosing
 pub mod Coding

@@ -249,7 +249,7 @@ module _ (carry : WaysCarry) (keeps : SameWhereNotDiffer) (core : Core) (coder :
         last = refl;
       }))))
 
-  earlier_fine : (k : ℕ) (b : ModuleBlock) → slice_get (lowered core coder).blocks k ≡ Some b → (nat_eq k 0 || not (is_empty (earlier (lowered core coder).blocks k))) ≡ true
+  pub earlier_fine : (k : ℕ) (b : ModuleBlock) → slice_get (lowered core coder).blocks k ≡ Some b → (nat_eq k 0 || not (is_empty (earlier (lowered core coder).blocks k))) ≡ true
   earlier_fine zero b is = refl
   earlier_fine (suc k) b is =
       let n = known (suc k) b is (omega arith) in

@@ -1,6 +1,6 @@
 //! The laws of the module that a core is lowered to. They have no code: each contract is a law.
 
-ghost use Rattle.block_graph.specs.Laws.{RunsAsCore, IsInOrder, StaysWithin, ModuleIsShaped, WorkIsSmall, StoresAreAssigned, KeepsItems, KeepsWays, KeepsTypes};
+ghost use Rattle.block_graph.specs.Laws.{RunsAsCore, IsInOrder, StaysWithin, ModuleIsShaped, WorkIsSmall, StoresAreAssigned, KeepsItems, KeepsWays, KeepsTypes, KeepsResults};
 
 use core_ir::laws::statements_unfold;
 use expr_lower::laws::straight_runs;
@@ -73,6 +73,14 @@ pub fn lowered_module_keeps_way_rules()
 /// Each operand of the module is of the type that its register is assigned with.
 pub fn lowered_module_keeps_types()
     ensures { KeepsTypes }
+{
+    ways_carry();
+    same_where_not_differ();
+}
+
+/// Each result of the module is read only after it was measured on every way.
+pub fn lowered_module_keeps_results()
+    ensures { KeepsResults }
 {
     ways_carry();
     same_where_not_differ();
