@@ -1,12 +1,11 @@
 -- Where a block jumps back, the blocks between are entered from none in front: what is known of labels while each statement is
 -- lowered.
-use Rattle.std.proofs.Common.{◌≡◌, ◌≢◌, ℕ, zero, suc, ◌+◌, ◌<◌, ◌≤◌, ◌⊎◌, inl, inr, ⊎_elim, nat_eq, Bool, true, false, ◌||◌, List, [], ◌∷◌, ◌++◌, map, length, get_or, pos, Option, Some, None, refl, sym, ap, ◌∙◌, subst, arith, length-append, length-set, get_or-set_same, get_or-set_other}
+use Rattle.std.proofs.Common.{◌≡◌, ◌≢◌, ℕ, zero, suc, ◌+◌, ◌<◌, ◌≤◌, ◌⊎◌, inl, inr, ⊎_elim, Bool, true, false, List, [], ◌∷◌, ◌++◌, map, length, get_or, pos, Option, Some, None, refl, sym, ap, ◌∙◌, subst, arith, length-set, get_or-set_same, get_or-set_other}
 use Rattle.std.specs.Prelude.{slice_set, if◌then◌else◌}
 use Rattle.std.specs.List.{AllByRecursion}
 use Rattle.std.proofs.lemmas.Bool.{cases_lt}
 use Rattle.std.proofs.lemmas.List.{get_or_at, get_or_past}
 use Rattle.qir_module.specs.declared.instruction.Operand.{Operand}
-use Rattle.qir_module.specs.declared.instruction.Last.{Last}
 use Rattle.qir_module.specs.declared.instruction.Last.TheVariants.{Jump, Return}
 use Rattle.qir_module.specs.Carried.{targets_of}
 use Rattle.qir_module.specs.Numbered.{is_among}
@@ -21,14 +20,13 @@ use Rattle.block_graph.specs.Fitting.{IsFit}
 use Rattle.block_graph.specs.Laws.{IsLowerable}
 use Rattle.block_graph.specs.Work.{Draft, Level, Open, Work}
 use Rattle.block_graph.specs.Lowering.{Coder, IsCoder, record_call, closed, close, way_of, add_way, label_at, when_open, leave_work, again_work, leave_zero, join_work, open_end, close_end, start_needs, open_loop, close_start, assign_work, gate_work, reset_work, measure_work, branch_last, first_operand, open_first, fall_work, fall_ways, open_second, join_bodies, two_bodies, lower_of, first_work, end_work, whole_work}
-use Rattle.block_graph.proofs.Flow.{fall_ends, fall_starts}
-use Rattle.block_graph.proofs.Moving.{IsValid, SameLevels, same_length, Moves, Emits}
+use Rattle.block_graph.proofs.Moving.{IsValid, SameLevels, same_length, Moves}
 use Rattle.block_graph.proofs.Choosing.{fallen}
-use Rattle.block_graph.proofs.Whole.{open_end_valid, open_loop_valid, open_first_valid, open_second_valid, levels_same, body_emits, emits, first_valid, program_fits}
+use Rattle.block_graph.proofs.Whole.{open_end_valid, open_loop_valid, open_first_valid, levels_same, body_emits, emits, first_valid, program_fits}
 use Rattle.block_graph.proofs.Bounding.{second_valid, second_levels}
 use Rattle.block_graph.proofs.Jumps.{IsIn, eq_or, named, named_left, named_within, named_push, named_kept, labels_of, EachBelow, below_in, below_more, label_in, add_labels, one_target, one_target_eq}
-use Rattle.block_graph.proofs.Tables.{blocks_opened, Table, Jumped, same_labels, below_not, get_front, get_more, zero_one, two_zero, open_end_table, open_loop_table, long_one, long_two, long_three, pushed}
-use Rattle.block_graph.proofs.Jumping.{Also, branch_targets, first_table, fall_targets, jumped_table, jumps}
+use Rattle.block_graph.proofs.Tables.{blocks_opened, Table, Jumped, same_labels, get_front, get_more, zero_one, two_zero, open_end_table, open_loop_table, long_one, long_two, long_three, pushed}
+use Rattle.block_graph.proofs.Jumping.{Also, branch_targets, first_table, jumped_table, jumps}
 use Rattle.block_graph.proofs.Entering.{second_zero, third_zero}
 use Rattle.block_graph.proofs.Targets.{NoLabel, start_table}
 
@@ -55,13 +53,15 @@ pub record Backs (done : List Draft) (target : ℕ → ℕ) (ends starts : List 
 
 start_push : (done : List Draft) (d : Draft) (target : ℕ → ℕ) (ss : List Level) → AllByRecursion (IsStart done target) ss → AllByRecursion (IsStart (done ++ d ∷ []) target) ss
 start_push done d target [] all = tt
-start_push done d target (s ∷ ss) all =
-    (record {
-      block = all.0.block;
-      known = omega (arith, all.0.known, pushed done d);
-      front = λ p l lt n. named_left l done (d ∷ []) p (omega (arith, lt, all.0.known)) ∙ all.0.front p l lt n;
-      between = all.0.between;
-    }, start_push done d target ss all.1)
+start_push done d target (s ∷ ss) all = (
+  record {
+    block = all.0.block;
+    known = omega (arith, all.0.known, pushed done d);
+    front = λ p l lt n. named_left l done (d ∷ []) p (omega (arith, lt, all.0.known)) ∙ all.0.front p l lt n;
+    between = all.0.between;
+  },
+  start_push done d target ss all.1,
+)
 
 -- a draft more
 push : (done : List Draft) (d : Draft) (target : ℕ → ℕ) (ends starts : List Level) → ((l : ℕ) → is_among (targets_of d.last) l ≡ true → (target l ≡ 0) ⊎ (length done < target l) ⊎ ((target l ≤ length done) × IsBack done target l (target l) (length done))) → Backs done target ends starts → Backs (done ++ d ∷ []) target ends starts
@@ -88,13 +88,15 @@ push done d target ends starts new b = record {
 
 start_set : (done : List Draft) (target more : ℕ → ℕ) (at k : ℕ) (ss : List Level) → ((l : ℕ) → l ≢ at → more l ≡ target l) → EachBelow at (labels_of ss) → AllByRecursion (IsStart done target) ss → AllByRecursion (IsStart done more) ss
 start_set done target more at k [] other low all = tt
-start_set done target more at k (s ∷ ss) other low all =
-    (record {
-      block = other s.label (λ e. absurd (omega (arith, e, low.0))) ∙ all.0.block;
-      known = all.0.known;
-      front = all.0.front;
-      between = λ x l le lt e. all.0.between x l le lt (sym (other l (λ q. absurd (omega (arith, q, le, low.0)))) ∙ e);
-    }, start_set done target more at k ss other low.1 all.1)
+start_set done target more at k (s ∷ ss) other low all = (
+  record {
+    block = other s.label (λ e. absurd (omega (arith, e, low.0))) ∙ all.0.block;
+    known = all.0.known;
+    front = all.0.front;
+    between = λ x l le lt e. all.0.between x l le lt (sym (other l (λ q. absurd (omega (arith, q, le, low.0)))) ∙ e);
+  },
+  start_set done target more at k ss other low.1 all.1,
+)
 
 -- a label behind the open ones has its block, which is new
 settle : (done : List Draft) (target more : ℕ → ℕ) (at k : ℕ) (ends starts : List Level) → more at ≡ k → ((l : ℕ) → l ≢ at → more l ≡ target l) → length done ≤ k → EachBelow at (labels_of ends) → EachBelow at (labels_of starts) → Backs done target ends starts → Backs done more ends starts
@@ -206,12 +208,15 @@ open_loop_backs kinds P needs w o is t b =
     let opened : blocks_opened w.now (length w.done) ≡ suc (length w.done) = ap (λ (x : Option Open). blocks_opened x (length w.done)) is in
     record {
       zeros = λ l i. ⊎_elim (λ e. ap more e ∙ second_zero w.targets k) (λ j. q.zeros l j) i;
-      open_starts = (record {
-        block = here;
-        known = omega (arith, one);
-        front = λ x l lt le. named_kept l w.done d x (one_target n l (λ e. absurd (omega (arith, e, le)))) ∙ p.fresh l x (omega (arith, le));
-        between = λ x l le lt e. ⊎_elim (λ (same : l ≡ n). absurd (omega (arith, sym (ap more same ∙ here) ∙ e, lt))) (λ (ne : l ≢ n). ⊎_elim (λ z. absurd (omega (arith, sym (other l ne ∙ z) ∙ e, lt))) (λ g. absurd (omega (arith, sym (other l ne) ∙ e, g, opened, lt))) (t.settled.bound l)) (eq_or l n);
-      }, q.open_starts);
+      open_starts = (
+        record {
+          block = here;
+          known = omega (arith, one);
+          front = λ x l lt le. named_kept l w.done d x (one_target n l (λ e. absurd (omega (arith, e, le)))) ∙ p.fresh l x (omega (arith, le));
+          between = λ x l le lt e. ⊎_elim (λ (same : l ≡ n). absurd (omega (arith, sym (ap more same ∙ here) ∙ e, lt))) (λ (ne : l ≢ n). ⊎_elim (λ z. absurd (omega (arith, sym (other l ne ∙ z) ∙ e, lt))) (λ g. absurd (omega (arith, sym (other l ne) ∙ e, g, opened, lt))) (t.settled.bound l)) (eq_or l n);
+        },
+        q.open_starts,
+      );
       jumps = q.jumps;
     }
 

@@ -1,5 +1,5 @@
 -- What is carried into the target of a jump back is left where the jump is; and a result is read only behind its measurement.
-use Rattle.std.proofs.Common.{◌≡◌, ◌≢◌, ℕ, zero, suc, ◌+◌, ◌<◌, ◌≤◌, ◌⊎◌, inl, inr, ⊎_elim, nat_eq, nat_lt, Bool, true, false, not, ◌&&◌, ◌||◌, List, [], ◌∷◌, ◌++◌, map, length, get_or, Option, Some, None, refl, sym, ap, ◌∙◌, subst, arith, append_assoc, append-nil, lt-ltb, ltb-true, eq-eqb, eqb-true, ne_eqb}
+use Rattle.std.proofs.Common.{◌≡◌, ℕ, zero, suc, ◌+◌, ◌<◌, ◌≤◌, ◌⊎◌, inl, inr, ⊎_elim, nat_eq, nat_lt, Bool, true, false, not, ◌&&◌, ◌||◌, List, [], ◌∷◌, ◌++◌, map, length, get_or, Option, Some, None, refl, sym, ap, ◌∙◌, subst, arith, append_assoc, append-nil, lt-ltb, eq-eqb, eqb-true, ne_eqb}
 use Rattle.std.specs.Prelude.{slice_get, filter, if◌then◌else◌}
 use Rattle.std.specs.List.{flat_map, list_all, list_any, AllByRecursion}
 use Rattle.std.proofs.lemmas.Bool.{cases_lt}
@@ -15,22 +15,22 @@ use Rattle.qir_module.specs.declared.block.Block.{Block as ModuleBlock}
 use Rattle.qir_module.specs.Module.{Module}
 use Rattle.qir_module.specs.Machine.{place_of}
 use Rattle.qir_module.specs.Functions.{Task, Initialize, ReadResult, ArrayRecord, BoolRecord, IntRecord, ResetQubit, MeasureQubit, ApplyGate, row_of}
-use Rattle.qir_module.specs.Numbered.{task_of, read_by, read_in, measured_in, registers_of, IsReadOf, ReadsFollow, EachReadsFollow, is_among, counted, CountsFrom}
+use Rattle.qir_module.specs.Numbered.{task_of, read_by, read_in, measured_in, registers_of, IsReadOf, ReadsFollow, EachReadsFollow, is_among, counted}
 use Rattle.qir_module.specs.Spots.{Item, ThePhi, TheInstr, TheLast, items_in, Spot}
 use Rattle.qir_module.specs.Carried.{Thing, TheRegister, TheResult, same_thing, targets_of, is_way, jumps_to, earlier, assigned_by, are_assigning, assigns, is_empty, carried_within, is_carried, is_left}
 use Rattle.qir_module.specs.Passes.{IsKept, results_read, results_named, reads_carried, leaves_carried, jumps_carry, carried_results_kept}
 use Rattle.core_ir.specs.Core.{Core}
 use Rattle.phi_place.specs.Phis.{WaysCarry, SameWhereNotDiffer}
 use Rattle.block_graph.specs.Laws.{IsLowerable}
-use Rattle.block_graph.specs.Work.{Draft, Open, Work}
-use Rattle.block_graph.specs.Lowering.{Coder, whole_work, settled, settled_last, settled_from, lowered}
+use Rattle.block_graph.specs.Work.{Draft, Work}
+use Rattle.block_graph.specs.Lowering.{Coder, whole_work, settled, settled_last, lowered}
 use Rattle.block_graph.proofs.Coding.{both, flat_append}
 use Rattle.block_graph.proofs.Flow.{or_left, or_right, or_cases}
-use Rattle.block_graph.proofs.Running.{block_place, names_of}
+use Rattle.block_graph.proofs.Running.{block_place}
 use Rattle.block_graph.proofs.Spotting.{spot_at, each_spot, all_middle, all_items, all_true}
 use Rattle.block_graph.proofs.Looping.{some_block}
 use Rattle.block_graph.proofs.Jumps.{named, jumps_in}
-use Rattle.block_graph.proofs.Targets.{LabelsSettled, labels_settled, settled_long}
+use Rattle.block_graph.proofs.Targets.{labels_settled, settled_long}
 use Rattle.block_graph.proofs.Whole.{settled_get, settled_names}
 use Rattle.block_graph.proofs.Ordering.{is_in_order}
 use Rattle.block_graph.proofs.Preceding.{earlier_fine}
@@ -141,9 +141,10 @@ module _ (carry : WaysCarry) (keeps : SameWhereNotDiffer) (core : Core) (coder :
   inside : (n h b : ℕ) → IsBack z.done labels n h b → b < length z.done → (x : ℕ) → h < x → x ≤ b → (is_empty (earlier m.blocks x) ≡ false) × AllByRecursion (λ (p : ℕ). (p < x) × (h ≤ p)) (earlier m.blocks x)
   inside n h b back lt x above below =
       let dx = draft_at z.done x (omega (arith, lt, below)) in
-      let is_x = block_at x dx.0 dx.1 in
-      (not_empty_of x (is_empty (earlier m.blocks x)) (omega (arith, above)) (earlier_fine carry keeps core coder l x (settled labels (late_phis core coder) x dx.0) is_x),
-        all_turn (λ (p : ℕ). (p < x) × (is_way m.blocks p x ≡ true)) (λ (p : ℕ). (p < x) × (h ≤ p)) (earlier m.blocks x) (λ p q. (q.0, from p q.0 q.1 is_x)) (earlier_ways m.blocks x))
+      let is_x = block_at x dx.0 dx.1 in (
+        not_empty_of x (is_empty (earlier m.blocks x)) (omega (arith, above)) (earlier_fine carry keeps core coder l x (settled labels (late_phis core coder) x dx.0) is_x),
+        all_turn (λ (p : ℕ). (p < x) × (is_way m.blocks p x ≡ true)) (λ (p : ℕ). (p < x) × (h ≤ p)) (earlier m.blocks x) (λ p q. (q.0, from p q.0 q.1 is_x)) (earlier_ways m.blocks x),
+      )
     where
       from : (p : ℕ) → p < x → is_way m.blocks p x ≡ true → slice_get m.blocks x ≡ Some (settled labels (late_phis core coder) x (draft_at z.done x (omega (arith, lt, below))).0) → h ≤ p
       from p px way is_x = at (cases_lt p h)
@@ -261,11 +262,12 @@ module _ (m : Module) (k : ℕ) where
 
   body_there : (front : List Item) (measured : List ℕ) (body : List Instr) (rest : List Item) → ((r : ℕ) → measured ≡ r ∷ [] → are_assigning front (TheResult r) ≡ true) → ReadsFollow measured body → ((f : List Item) → AllAt IsThere f rest) → AllAt IsThere front (map TheInstr body ++ rest)
   body_there front measured [] rest known follow others = others front
-  body_there front measured (i ∷ is) rest known follow others =
-      (⊎_elim (λ e. ap (λ (ks : List ℕ). list_all (is_there front) (map TheResult ks)) e)
-          (λ r. ap (λ (ks : List ℕ). list_all (is_there front) (map TheResult ks)) r.1 ∙ both (is_there front (TheResult r.0)) true (or_left (are_assigning front (TheResult r.0)) (is_carried m.blocks k (TheResult r.0)) (known r.0 (subst (IsReadOf measured) r.1 follow.0))) refl)
-          (reading i),
-        body_there (front ++ TheInstr i ∷ []) (measured_in i) is rest (λ r e. assigning_last front (TheInstr i) (TheResult r) (measured_assigns i r e)) follow.1 others)
+  body_there front measured (i ∷ is) rest known follow others = (
+    ⊎_elim (λ e. ap (λ (ks : List ℕ). list_all (is_there front) (map TheResult ks)) e)
+        (λ r. ap (λ (ks : List ℕ). list_all (is_there front) (map TheResult ks)) r.1 ∙ both (is_there front (TheResult r.0)) true (or_left (are_assigning front (TheResult r.0)) (is_carried m.blocks k (TheResult r.0)) (known r.0 (subst (IsReadOf measured) r.1 follow.0))) refl)
+        (reading i),
+    body_there (front ++ TheInstr i ∷ []) (measured_in i) is rest (λ r e. assigning_last front (TheInstr i) (TheResult r) (measured_assigns i r e)) follow.1 others,
+  )
 
   phis_there : (front : List Item) (phis : List Phi) (rest : List Item) → ((f : List Item) → AllAt IsThere f rest) → AllAt IsThere front (map ThePhi phis ++ rest)
   phis_there front [] rest others = others front
