@@ -1,0 +1,15 @@
+pub mod Bodies
+pub mod Choices
+pub mod Fitted
+pub mod Holding
+pub mod Labels
+pub mod Later
+pub mod Levels
+pub mod Marking
+pub mod Module
+pub mod Placing
+pub mod Ranges
+pub mod Rising
+pub mod Settling
+pub mod Storing
+pub mod Zeros
