@@ -17,6 +17,7 @@ pub mod Living
 pub mod Looping
 pub mod Moving
 pub mod Ordering
+pub mod Passing
 pub mod Preceding
 pub mod Returning
 pub mod Ruling
