@@ -48,7 +48,7 @@ all_hold f P [] h all = refl
 all_hold f P (x ∷ xs) h all = both (f x) (list_all f xs) (h x all.0) (all_hold f P xs h all.1)
 
 module _ (before : ℕ → List ℕ) (assigned : ℕ → Bool) (less : (b : ℕ) → AllByRecursion (λ (p : ℕ). p < b) (before b)) where
-  same_depth : (n m b : ℕ) → b < n → b < m → carried_within before assigned n b ≡ carried_within before assigned m b
+  pub same_depth : (n m b : ℕ) → b < n → b < m → carried_within before assigned n b ≡ carried_within before assigned m b
   same_depth zero m b ln lm = absurd (omega (arith, ln))
   same_depth (suc n) zero b ln lm = absurd (omega (arith, lm))
   same_depth (suc n) (suc m) b ln lm =
@@ -91,10 +91,10 @@ all_turn : (P Q : ℕ → Type 0) (xs : List ℕ) → ((x : ℕ) → P x → Q x
 all_turn P Q [] f all = tt
 all_turn P Q (x ∷ xs) f all = (f x all.0, all_turn P Q xs f all.1)
 
-earlier_ways : (blocks : List ModuleBlock) (b : ℕ) → AllByRecursion (λ (p : ℕ). (p < b) × (is_way blocks p b ≡ true)) (earlier blocks b)
+pub earlier_ways : (blocks : List ModuleBlock) (b : ℕ) → AllByRecursion (λ (p : ℕ). (p < b) × (is_way blocks p b ≡ true)) (earlier blocks b)
 earlier_ways blocks b = all_turn (λ (x : ℕ). (x < 0 + b) × (is_way blocks x b ≡ true)) (λ (p : ℕ). (p < b) × (is_way blocks p b ≡ true)) (earlier blocks b) (λ x h. (omega (arith, h.0), h.1)) (counted_with (λ p. is_way blocks p b) 0 b)
 
-earlier_less : (blocks : List ModuleBlock) (b : ℕ) → AllByRecursion (λ (p : ℕ). p < b) (earlier blocks b)
+pub earlier_less : (blocks : List ModuleBlock) (b : ℕ) → AllByRecursion (λ (p : ℕ). p < b) (earlier blocks b)
 earlier_less blocks b = all_turn (λ (p : ℕ). (p < b) × (is_way blocks p b ≡ true)) (λ (p : ℕ). p < b) (earlier blocks b) (λ x h. h.0) (earlier_ways blocks b)
 
 -- the label by which a last instruction leads to a block
@@ -208,11 +208,11 @@ module _ (carry : WaysCarry) (keeps : SameWhereNotDiffer) (core : Core) (coder :
 
 -- ---- items, each with those in front
 
-abbrev AllAt : (List Item → Item → Type 0) → List Item → List Item → Type 0
+abbrev pub AllAt : (List Item → Item → Type 0) → List Item → List Item → Type 0
 AllAt Q front [] = Unit {0}
 AllAt Q front (x ∷ xs) = Q front x × AllAt Q (front ++ x ∷ []) xs
 
-at_middle : (Q : List Item → Item → Type 0) (before front : List Item) (item : Item) (rest : List Item) → AllAt Q before (front ++ item ∷ rest) → Q (before ++ front) item
+pub at_middle : (Q : List Item → Item → Type 0) (before front : List Item) (item : Item) (rest : List Item) → AllAt Q before (front ++ item ∷ rest) → Q (before ++ front) item
 at_middle Q before [] item rest all = subst (λ (f : List Item). Q f item) (sym (append-nil before)) all.0
 at_middle Q before (x ∷ front) item rest all = subst (λ (f : List Item). Q f item) (append_assoc before (x ∷ []) front) (at_middle Q (before ++ x ∷ []) front item rest all.1)
 

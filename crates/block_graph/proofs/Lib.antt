@@ -19,6 +19,7 @@ pub mod Moving
 pub mod Ordering
 pub mod Passing
 pub mod Preceding
+pub mod Reading
 pub mod Returning
 pub mod Ruling
 pub mod Running
