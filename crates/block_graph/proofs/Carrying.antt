@@ -113,7 +113,7 @@ draft_at (d ∷ ds) (suc k) lt = draft_at ds k (omega (arith, lt))
 
 -- ---- jumps back
 
-not_empty_of : (k : ℕ) (e : Bool) → 0 < k → (nat_eq k 0 || not e) ≡ true → e ≡ false
+pub not_empty_of : (k : ℕ) (e : Bool) → 0 < k → (nat_eq k 0 || not e) ≡ true → e ≡ false
 not_empty_of k e lt h = at (nat_eq k 0) e (ne_eqb k 0 (λ q. absurd (omega (arith, q, lt)))) h
   where
     at : (a e : Bool) → a ≡ false → (a || not e) ≡ true → e ≡ false

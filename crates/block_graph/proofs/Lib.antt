@@ -17,8 +17,10 @@ pub mod Living
 pub mod Looping
 pub mod Moving
 pub mod Ordering
+pub mod Passed
 pub mod Passing
 pub mod Preceding
+pub mod Reaching
 pub mod Reading
 pub mod Returning
 pub mod Ruling

@@ -1,5 +1,5 @@
 -- Along every way forward through the module, whatever its tests answer, each operand that is taken has a value.
-use Rattle.std.proofs.Common.{◌≡◌, ℕ, zero, suc, ◌+◌, ◌<◌, ◌≤◌, ◌⊎◌, inl, inr, ⊎_elim, nat_eq, Bool, true, false, ◌||◌, All, List, [], ◌∷◌, ◌++◌, length, map, pos, Option, Some, None, refl, sym, ap, ◌∙◌, subst, arith, append-nil, eq-eqb, eqb-true}
+use Rattle.std.proofs.Common.{◌≡◌, ℕ, zero, suc, ◌<◌, inl, inr, ⊎_elim, nat_eq, Bool, true, false, ◌||◌, All, List, [], ◌∷◌, ◌++◌, length, map, pos, Option, Some, None, refl, sym, ap, ◌∙◌, subst, arith, append-nil, eq-eqb, eqb-true}
 use Rattle.std.specs.Prelude.{slice_get, slice_set, if◌then◌else◌}
 use Rattle.std.specs.List.{AllByRecursion}
 use Rattle.std.proofs.lemmas.List.Elements.{recursion_from_All}
@@ -26,7 +26,7 @@ use Rattle.expr_lower.specs.Lowered.{HoldValues, straight, then_state, goes_on}
 use Rattle.block_graph.specs.Bounds.{IsHeldLeaf, IsHeldOutput}
 use Rattle.block_graph.specs.Fitting.{IsFit}
 use Rattle.block_graph.specs.Lowering.{first_operand, gate_call, record_call}
-use Rattle.block_graph.specs.Stretch.{Place, Leads, GoesTo, Forward, Back, Joins, Merges, AssignLow, GateLow, ResetLow, DropLow, ReadLow, Branches, end_at, Low, Returns, IsGraphOf}
+use Rattle.block_graph.specs.Stretch.{Place, Leads, GoesTo, Joins, Merges, AssignLow, GateLow, ResetLow, DropLow, ReadLow, Branches, end_at, Low, Returns, IsGraphOf}
 use Rattle.block_graph.proofs.Flow.{or_cases}
 use Rattle.block_graph.proofs.Holding.{HoldsAll, truth_read_as, truth_here, result_holds, set_holds, store_holds, first_holds}
 use Rattle.block_graph.proofs.Calling.{gate_effect, record_effect}

@@ -220,7 +220,7 @@ module _ (carry : WaysCarry) (keeps : SameWhereNotDiffer) (core : Core) (coder :
         phis = ap (λ (x : ModuleBlock). x.phis) same ∙ ap (settled_phis lates) d.2;
       }
 
-  phis_fine : (k : ℕ) (b : ModuleBlock) → slice_get (lowered core coder).blocks k ≡ Some b → AllByRecursion (λ (p : Phi). phi_test (lowered core coder) k b (ThePhi p) ≡ true) b.phis
+  pub phis_fine : (k : ℕ) (b : ModuleBlock) → slice_get (lowered core coder).blocks k ≡ Some b → AllByRecursion (λ (p : Phi). phi_test (lowered core coder) k b (ThePhi p) ≡ true) b.phis
   phis_fine zero b is =
       let graph = is_graph carry keeps core coder l.coder_fits (program_fits core l.fits l.held) l.fits.well_formed.levels in
       let same : b ≡ graph.starts.target = some_block b graph.starts.target (sym is ∙ graph.starts.found) in

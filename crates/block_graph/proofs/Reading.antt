@@ -1,9 +1,9 @@
 -- What an instruction, a last instruction or a phi takes is assigned in front in its block, or carried into it.
-use Rattle.std.proofs.Common.{◌≡◌, ℕ, zero, suc, ◌+◌, ◌<◌, ◌≤◌, ◌⊎◌, inl, inr, ⊎_elim, nat_eq, Bool, true, false, not, ◌&&◌, ◌||◌, List, [], ◌∷◌, ◌++◌, length, map, Option, Some, None, refl, sym, ap, ◌∙◌, subst, arith, append_assoc, append-nil, eq-eqb, eqb-true}
-use Rattle.std.specs.Prelude.{slice_get, if◌then◌else◌, ℤ}
-use Rattle.std.specs.List.{flat_map, list_all, list_any, AllByRecursion}
+use Rattle.std.proofs.Common.{◌≡◌, ℕ, zero, suc, ◌⊎◌, inl, inr, ⊎_elim, nat_eq, Bool, true, false, ◌||◌, List, [], ◌∷◌, ◌++◌, map, Option, Some, None, refl, sym, ap, ◌∙◌, subst, append_assoc, append-nil}
+use Rattle.std.specs.Prelude.{if◌then◌else◌, ℤ}
+use Rattle.std.specs.List.{flat_map, list_any, AllByRecursion}
 use Rattle.qir_module.specs.declared.instruction.Operand.{Operand}
-use Rattle.qir_module.specs.declared.instruction.Operand.TheVariants.{Register, Fixed}
+use Rattle.qir_module.specs.declared.instruction.Operand.TheVariants.{Register}
 use Rattle.qir_module.specs.declared.instruction.Opcode.{Opcode}
 use Rattle.qir_module.specs.declared.instruction.Arg.{Arg}
 use Rattle.qir_module.specs.declared.instruction.Arg.TheVariants.{Number, Truth, Id, Text}
@@ -16,17 +16,16 @@ use Rattle.qir_module.specs.Functions.{Kind, NumberKind, TruthKind, NullKind, Qu
 use Rattle.qir_module.specs.Numbered.{is_among, registers_of, measured_in}
 use Rattle.qir_module.specs.Spots.{Item, ThePhi, TheInstr, TheLast}
 use Rattle.qir_module.specs.Carried.{Thing, TheRegister, TheResult, same_thing, assigned_by, are_assigning}
-use Rattle.qir_module.specs.Machine.{Value, Holds as HoldsTruth, State, with_register, with_result, word_of, truth_of, as_word, as_truth, word_in, truth_in, value_in, on_words, on_truths, with_both, op_value, extended, truncated, selected, Given, WordGiven, TruthGiven, NullGiven, IdGiven, LabelGiven, word_given, truth_given, given, with_front, all_given, Effect, truth_read, task_effect, given_effect, row_effect, stored, effect_of, entry_from, phi_value, with_phi, take_phis}
+use Rattle.qir_module.specs.Machine.{Value, Holds as HoldsTruth, State, with_register, with_result, word_of, truth_of, as_word, as_truth, word_in, truth_in, value_in, on_words, on_truths, with_both, op_value, extended, truncated, selected, Given, WordGiven, TruthGiven, NullGiven, IdGiven, LabelGiven, word_given, truth_given, given, with_front, all_given, truth_read, task_effect, given_effect, row_effect, stored, effect_of, entry_from, phi_value, with_phi, take_phis}
 use Rattle.qir_module.specs.Module.{Module}
 use Rattle.qir_module.specs.Passes.{arg_operands, instr_operands, last_operands}
 use Rattle.block_graph.proofs.Coding.{flat_append}
-use Rattle.block_graph.proofs.Flow.{or_cases}
 use Rattle.block_graph.proofs.Carrying.{AllAt}
 use Rattle.block_graph.proofs.Passing.{after_effect, GoesOn, Runs, HasTest, Ends}
 
 -- ---- what is not read
 
-or_neither : (a b : Bool) → (a || b) ≡ false → (a ≡ false) × (b ≡ false)
+pub or_neither : (a b : Bool) → (a || b) ≡ false → (a ≡ false) × (b ≡ false)
 or_neither true b e = absurd (cc e)
 or_neither false b e = (refl, e)
 
@@ -256,7 +255,7 @@ module _ (labels r : ℕ) where
   Untaken front (TheInstr i) = are_assigning front (TheRegister r) ≡ false → IsRead r (instr_operands i) → ⊥
   Untaken front (TheLast last) = are_assigning front (TheRegister r) ≡ false → IsRead r (last_operands last) → ⊥
 
-  front_silent : (front : List Item) (item : Item) → are_assigning (front ++ item ∷ []) (TheRegister r) ≡ false → (are_assigning front (TheRegister r) ≡ false) × (list_any (same_thing (TheRegister r)) (assigned_by item) ≡ false)
+  pub front_silent : (front : List Item) (item : Item) → are_assigning (front ++ item ∷ []) (TheRegister r) ≡ false → (are_assigning front (TheRegister r) ≡ false) × (list_any (same_thing (TheRegister r)) (assigned_by item) ≡ false)
   front_silent front item e =
       any_neither (same_thing (TheRegister r)) (flat_map assigned_by front) (assigned_by item)
       (sym (ap (list_any (same_thing (TheRegister r))) (flat_append assigned_by front (item ∷ []) ∙ ap (λ (xs : List Thing). flat_map assigned_by front ++ xs) (append-nil (assigned_by item)))) ∙ e)
@@ -270,7 +269,7 @@ module _ (labels r : ℕ) where
       let own = any_neither (same_thing (TheRegister r)) (map TheRegister (registers_of i)) (map TheResult (measured_in i)) two.1 in
       instr_keeps labels s r s' i (sym (named_registers r (registers_of i)) ∙ own.0) e ∙ absent two.0
 
-  has_test : (m : Module) (n k : ℕ) (last : Last) (s : State) → Ends m n k last s → HasTest last s
+  pub has_test : (m : Module) (n k : ℕ) (last : Last) (s : State) → Ends m n k last s → HasTest last s
   has_test m zero k last s h = h
   has_test m (suc n) k last s h = h.0
 

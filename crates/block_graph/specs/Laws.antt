@@ -7,7 +7,7 @@ use Rattle.qir_module.specs.Items.{items_of}
 use Rattle.qir_module.specs.Machine.{machine_run}
 use Rattle.qir_module.specs.Module.{Module, IsShaped}
 use Rattle.qir_module.specs.Numbered.{IsNumbered, functions_of}
-use Rattle.qir_module.specs.Passes.{IsKept, flags_kept, entry_kept, qubit_ids_kept, result_ids_kept, declarations_kept, calls_kept, initialize_kept, labels_kept, assigned_once_kept, constants_kept, distinct_qubits_kept, label_texts_kept, targets_kept, phis_kept, earlier_way_kept, records_kept, limits_kept, operand_types_kept, carried_results_kept}
+use Rattle.qir_module.specs.Passes.{IsKept, flags_kept, entry_kept, qubit_ids_kept, result_ids_kept, declarations_kept, calls_kept, initialize_kept, labels_kept, assigned_once_kept, constants_kept, distinct_qubits_kept, label_texts_kept, targets_kept, phis_kept, earlier_way_kept, records_kept, limits_kept, operand_types_kept, carried_results_kept, carried_registers_kept, Passes}
 use Rattle.core_ir.specs.Core.{Core}
 use Rattle.core_ir.specs.Run.{core_run}
 use Rattle.core_ir.specs.declared.expression.CoreExpr.{CoreExpr}
@@ -100,3 +100,11 @@ KeepsTypes = (core : Core) (coder : Coder) → IsLowerable core coder → IsKept
 -- and that on results: one is read only after it was measured on every way
 abbrev pub KeepsResults : Type 0
 KeepsResults = (core : Core) (coder : Coder) → IsLowerable core coder → IsKept (lowered core coder) carried_results_kept
+
+-- and that on registers: one is taken only where it was assigned on every way
+abbrev pub KeepsRegisters : Type 0
+KeepsRegisters = (core : Core) (coder : Coder) → IsLowerable core coder → IsKept (lowered core coder) carried_registers_kept
+
+-- it keeps all the rules of the profile
+abbrev pub LoweredPasses : Type 0
+LoweredPasses = (core : Core) (coder : Coder) → IsLowerable core coder → Passes (lowered core coder)

@@ -1,6 +1,6 @@
 //! The laws of the module that a core is lowered to. They have no code: each contract is a law.
 
-ghost use Rattle.block_graph.specs.Laws.{RunsAsCore, IsInOrder, StaysWithin, ModuleIsShaped, WorkIsSmall, StoresAreAssigned, KeepsItems, KeepsWays, KeepsTypes, KeepsResults};
+ghost use Rattle.block_graph.specs.Laws.{RunsAsCore, IsInOrder, StaysWithin, ModuleIsShaped, WorkIsSmall, StoresAreAssigned, KeepsItems, KeepsWays, KeepsTypes, KeepsResults, KeepsRegisters, LoweredPasses};
 
 use core_ir::laws::statements_unfold;
 use expr_lower::laws::straight_runs;
@@ -82,6 +82,23 @@ pub fn lowered_module_keeps_types()
 pub fn lowered_module_keeps_results()
     ensures { KeepsResults }
 {
+    ways_carry();
+    same_where_not_differ();
+}
+
+/// Each register of the module is taken only where it was assigned on every way.
+pub fn lowered_module_keeps_registers()
+    ensures { KeepsRegisters }
+{
+    ways_carry();
+    same_where_not_differ();
+}
+
+/// The module keeps all the rules of the profile.
+pub fn lowered_module_passes()
+    ensures { LoweredPasses }
+{
+    statements_unfold();
     ways_carry();
     same_where_not_differ();
 }
