@@ -3,6 +3,7 @@
 ghost use Rattle.std.specs.Prelude.{◌≡◌, ◌<◌, ◌≤◌, ◌^◌, ℕ, Bool, List, length, All, Some, IfOk, OnOk};
 ghost use Rattle.qir_module.specs.Machine.{machine_run};
 ghost use Rattle.qir_module.specs.Numbered.{IsNumbered};
+ghost use Rattle.qir_module.specs.Passes.{Passes};
 ghost use Rattle.core_ir.specs.Run.{core_run};
 ghost use Rattle.core_ir.specs.Tree.{If, Block, Loop, node_stmt, stmt_of, body_of, program_of};
 ghost use Rattle.core_ir.specs.WellFormed.{Fits, StmtFits};
@@ -17,8 +18,8 @@ use crate::graph::Work;
 use crate::held::held;
 use crate::work::Open;
 use block_graph::laws::{
-    lowered_module_is_in_order, lowered_module_is_shaped, lowered_module_runs_as_its_core,
-    lowered_module_stays_within, lowering_stays_small,
+    lowered_module_is_in_order, lowered_module_is_shaped, lowered_module_passes,
+    lowered_module_runs_as_its_core, lowered_module_stays_within, lowering_stays_small,
 };
 use core_ir::laws::statements_unfold;
 use core_ir::{Core, CoreStmt};
@@ -179,11 +180,12 @@ fn lower_program(work: &mut Work, core: &Core) -> Result<(), NoMemory>
 }
 
 /// The module that a core is lowered to. It does what the core does, for every list of outcomes and every number of turns;
-/// its blocks, registers and results are numbered in the order of the text; it has the labels and qubits of the core; and
-/// it is as small as the core's weight, knots, joined cells and calls say.
+/// it keeps all rules of the profile; its blocks, registers and results are numbered in the order of the text; it has the
+/// labels and qubits of the core; and it is as small as the core's weight, knots, joined cells and calls say.
 pub fn lower(alloc: Global, core: &Core) -> Result<Module, NoMemory>
     requires { Fits core.now }
     ensures runs { IfOk result (λ m. (outcomes : List Bool) (turns : ℕ) → machine_run m outcomes turns ≡ core_run core.now outcomes turns) }
+    ensures passes { IfOk result (λ m. Passes m) }
     ensures numbered { IfOk result (λ m. IsNumbered m) }
     ensures labels { IfOk result (λ m. m.labels ≡ core.now.labels) }
     ensures qubits { IfOk result (λ m. m.qubits ≡ core.now.qubits) }
@@ -194,6 +196,7 @@ pub fn lower(alloc: Global, core: &Core) -> Result<Module, NoMemory>
     lowering_stays_small();
     lowered_module_is_shaped();
     lowered_module_runs_as_its_core();
+    lowered_module_passes();
     lowered_module_is_in_order();
     lowered_module_stays_within();
     let mut work = Work::new(alloc, core)?;

@@ -2,6 +2,7 @@ use Rattle.std.proofs.Common.{◌≡◌, ◌<◌, ◌^◌, length, ap, sym, subs
 use Rattle.qir_module.specs.Machine.{machine_run}
 use Rattle.qir_module.specs.Module.{Module, IsShaped}
 use Rattle.qir_module.specs.Numbered.{IsNumbered}
+use Rattle.qir_module.specs.Passes.{Passes}
 use Rattle.core_ir.specs.Run.{core_run}
 use Rattle.core_ir.specs.Tree.{program_of}
 use Rattle.expr_lower.specs.Coded.{coded}
@@ -26,6 +27,9 @@ into_module-requires-clause-shaped c = subst (λ (v : Work). IsShaped (module_of
 pub returns-clause-runs : goal.returns-clause-runs
 returns-clause-runs c outcomes turns =
     subst (λ (m : Module). machine_run m outcomes turns ≡ core_run c.args.core.now outcomes turns) (sym (c.in_ok-made.ensures ∙ ap (module_of c.args.core.now) (c.in_ok-end.ensures ∙ ap (λ (v : Work). when_open v.now v (end_work c.args.core.now.outputs v)) (c.in_ok-lower_program.ensures ∙ ap (lower_of c.args.core.now (coded c.args.core.now) (program_of c.args.core.now)) c.in_ok-work.ensures)))) (c.lowered_module_runs_as_its_core.ensures c.args.core.now (coded c.args.core.now) (lowerable c.args.core.now c.requires c.held.ensures c.codes_expressions.ensures) outcomes turns)
+
+pub returns-clause-passes : goal.returns-clause-passes
+returns-clause-passes c = subst Passes (sym (c.in_ok-made.ensures ∙ ap (module_of c.args.core.now) (c.in_ok-end.ensures ∙ ap (λ (v : Work). when_open v.now v (end_work c.args.core.now.outputs v)) (c.in_ok-lower_program.ensures ∙ ap (lower_of c.args.core.now (coded c.args.core.now) (program_of c.args.core.now)) c.in_ok-work.ensures)))) (c.lowered_module_passes.ensures c.args.core.now (coded c.args.core.now) (lowerable c.args.core.now c.requires c.held.ensures c.codes_expressions.ensures))
 
 pub returns-clause-numbered : goal.returns-clause-numbered
 returns-clause-numbered c = subst IsNumbered (sym (c.in_ok-made.ensures ∙ ap (module_of c.args.core.now) (c.in_ok-end.ensures ∙ ap (λ (v : Work). when_open v.now v (end_work c.args.core.now.outputs v)) (c.in_ok-lower_program.ensures ∙ ap (lower_of c.args.core.now (coded c.args.core.now) (program_of c.args.core.now)) c.in_ok-work.ensures)))) (c.lowered_module_is_in_order.ensures c.args.core.now (coded c.args.core.now) (lowerable c.args.core.now c.requires c.held.ensures c.codes_expressions.ensures))
