@@ -16,7 +16,8 @@ use Rattle.grammar_parts.proofs.Sets.{both_true}
 use Rattle.qasm_lexer.specs.Sizes.{bytes_of}
 use Rattle.qasm_expr.specs.TokenKinds.{bits_of, kind}
 use Rattle.qasm_expr.specs.Grammar.{Rows, operators, Counted, Link, join, comma, bits_literal, literal_at, width, type, grouped, cast, arguments, stop, behind_colon, set, content, index, behind_name, prim, power, unary_at, link, level, binary, expr_of, unary, expr}
-use Rattle.qasm_grammar.proofs.Holding.{Holds, Each, holds_nothing, holds_never, holds_one, holds_then, holds_behind, holds_either, holds_cond, holds_wider, holds_map, holds_many, holds_repeated, holds_opening, holds_any_list, holds_some_list}
+use Rattle.qasm_grammar.specs.Height.{Each}
+use Rattle.qasm_grammar.proofs.Holding.{Holds, holds_nothing, holds_never, holds_one, holds_then, holds_behind, holds_either, holds_cond, holds_wider, holds_map, holds_many, holds_repeated, holds_opening, holds_any_list, holds_some_list}
 
 -- an expression, and one that stands one level deeper
 abbrev pub Fits : ℕ → Tree → Type 0

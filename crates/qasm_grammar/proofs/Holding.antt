@@ -1,15 +1,16 @@
 -- What holds of each value that a part derives, by the way the part is made.
-use Rattle.std.proofs.Common.{◌≡◌, inl, inr, ℕ, zero, suc, ◌<◌, Bool, true, false, cond, List, [], ◌∷◌, Option, Some, None, subst, arith}
+use Rattle.std.proofs.Common.{◌≡◌, inl, inr, ℕ, zero, suc, ◌<◌, Bool, true, false, cond, List, [], ◌∷◌, Option, Some, None, refl, subst, arith}
 use Rattle.grammar_parts.specs.Part.{Part, nothing, never, one, then, either, many, Many, repeated, nothing_kept}
+use Rattle.qasm_grammar.specs.Height.{Each}
 use Rattle.grammar_parts.specs.Kinds.{opening, is_item, items, entry, entries, any_list, some_list}
 
 pub record Holds {T A : Type 0} (p : Part T A) (P : A → Type 0) : Type 0 where
   pub holds : (ts : List T) (a : A) → p.derives ts a → P a
 
--- P holds of each of these
-abbrev pub Each : {A : Type 0} → (A → Type 0) → List A → Type 0
-Each P [] = Unit {0}
-Each P (a ∷ as') = P a × Each P as'
+-- each of these, with the state in front of it
+abbrev pub Chain : {S A : Type 0} → (S → A → S) → (S → A → Type 0) → S → List A → Type 0
+Chain next Q s [] = Unit {0}
+Chain next Q s (a ∷ as') = Q s a × Chain next Q (next s a) as'
 
 -- nothing is said
 abbrev pub Any : {A : Type 0} → A → Type 0
@@ -46,8 +47,16 @@ module _ {T : Type 0} where
   holds_cond true f g = f
   holds_cond false f g = g
 
+  -- where the part stands only under a condition
+  pub holds_if : {A : Type 0} {p : Part T A} {P : A → Type 0} (b : Bool) → (b ≡ true → Holds p P) → Holds (cond b p never) P
+  holds_if true f = f refl
+  holds_if false f = holds_never
+
   pub holds_wider : {A : Type 0} {p : Part T A} {P Q : A → Type 0} → Holds p P → ((a : A) → P a → Q a) → Holds p Q
   holds_wider f g = record { holds = λ ts a d. g a (f.holds ts a d) }
+
+  pub holds_both : {A : Type 0} {p : Part T A} {P Q : A → Type 0} → Holds p P → Holds p Q → Holds p (λ a. P a × Q a)
+  holds_both f g = record { holds = λ ts a d. (f.holds ts a d, g.holds ts a d) }
 
   pub holds_map : {A B : Type 0} {p : Part T A} {P : A → Type 0} {Q : B → Type 0} (f : A → B) → Holds p P → ((a : A) → P a → Q (f a)) → Holds (then p (λ a. nothing (f a))) Q
   holds_map f h g = holds_then h (λ a x. holds_nothing (g a x))
@@ -58,6 +67,14 @@ module _ {T : Type 0} where
       at : (s : S) (ts : List T) (as' : List A) → Many p next s ts as' → Each P as'
       at s ts [] d = tt
       at s ts (a ∷ as') (xs, ys, e, d, w) = ((f s).holds xs a d, at (next s a) ys as' w)
+
+  -- each value stands in a relation to the state in front of it
+  pub holds_chain : {S A : Type 0} {p : S → Part T A} (next : S → A → S) (Ready : S → Type 0) (Q : S → A → Type 0) → ((s : S) → Ready s → Holds (p s) (λ a. Q s a × Ready (next s a))) → (s : S) → Ready s → Holds (many p next s) (Chain next Q s)
+  holds_chain {S} {A} {p} next Ready Q f s h = record { holds = λ ts as' d. at s h ts as' d }
+    where
+      at : (s : S) → Ready s → (ts : List T) (as' : List A) → Many p next s ts as' → Chain next Q s as'
+      at s h ts [] d = tt
+      at s h ts (a ∷ as') (xs, ys, e, d, w) = let g = (f s h).holds xs a d in (g.0, at (next s a) g.1 ys as' w)
 
   pub holds_repeated : {A : Type 0} {p : Part T A} {P : A → Type 0} → Holds p P → Holds (repeated p) (Each P)
   holds_repeated f = holds_many (λ s a. s) (λ s. f) nothing_kept

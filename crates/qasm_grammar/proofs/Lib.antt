@@ -15,3 +15,6 @@ pub mod Moves
 pub mod Holding
 pub mod ExprRooms
 pub mod Rooms
+pub mod Everywhere
+pub mod ExprHeights
+pub mod Heights

@@ -12,7 +12,8 @@ use Rattle.qasm_expr.specs.Grammar.{comma, arguments, index}
 use Rattle.qasm_grammar.specs.Parts.{Block, Body, Call, Turns, over_range, over_set, Opened, statements, opened_statements, with_change, declared, operand_at, call_statement, hardware_at, optional, block_of, body_of, inner, inside, condition, any_width, any_type, target, operand, operands, any_operands, value, parameter, applied, named_call, phase, plain_call, modifier, modified, call, behind_second, span, turns}
 use Rattle.qasm_grammar.specs.Grammar.{for_of, any_gate_parameters, behind_body, member, gate_body, gate_definition, inner_parameter, parameters, result, subroutine_definition, declaration, barrier_line, assigned, assignment, subroutine_call, gate_call_line, behind_name, action, control as controlled, stmt_at, stmt, program}
 use Rattle.qasm_grammar.specs.Whole.{IsProgramOf}
-use Rattle.qasm_grammar.proofs.Holding.{Holds, Each, holds_nothing, holds_never, holds_one, holds_then, holds_behind, holds_either, holds_cond, holds_wider, holds_map, holds_repeated, holds_opening, holds_any_list, holds_some_list}
+use Rattle.qasm_grammar.specs.Height.{Each}
+use Rattle.qasm_grammar.proofs.Holding.{Holds, holds_nothing, holds_never, holds_one, holds_then, holds_behind, holds_either, holds_cond, holds_wider, holds_map, holds_repeated, holds_opening, holds_any_list, holds_some_list}
 use Rattle.qasm_grammar.proofs.ExprRooms.{FitsDeeper, trees_fit, brackets_fit, width_fits, type_fits, grouped_fits, arguments_fit, content_fits, index_fits, expr_fits, deeper_expr_fits}
 
 -- ---- what fits

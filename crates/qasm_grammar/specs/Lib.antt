@@ -2,6 +2,7 @@ pub mod Parts
 pub mod Grammar
 pub mod Reader
 pub mod Whole
+pub mod Height
 pub mod Stops
 pub mod Answer
 pub mod Rows

@@ -1,10 +1,11 @@
 //! The laws of programs. They have no code: each contract is a law.
 
-ghost use Rattle.std.specs.Prelude.{◌≡◌, ℕ, ◌≤◌, Option, List};
+ghost use Rattle.std.specs.Prelude.{◌≡◌, ℕ, suc, ◌*◌, ◌≤◌, Option, Some, List};
 ghost use Rattle.qq_base.specs.declared.refusal.Refusal.{Refusal};
 ghost use Rattle.qasm_lexer.specs.declared.token.Token.{Token};
 ghost use Rattle.qasm_ast.specs.Tree.{Statements};
 ghost use Rattle.qasm_ast.specs.Level.{stmts_level};
+ghost use Rattle.qasm_grammar.specs.Height.{height_of, Every};
 ghost use Rattle.qasm_grammar.specs.Reader.{read_program};
 ghost use Rattle.qasm_grammar.specs.Whole.{IsProgramOf, ProgramExact, finish};
 ghost use Rattle.qasm_grammar.specs.Stops.{IsRefused};
@@ -48,6 +49,13 @@ pub fn programs_are_not_refused()
 pub fn programs_fit_their_room()
     ensures { (text : List ℕ) (limit : Option ℕ) (room : ℕ) (tokens : List Token) (statements : Statements) →
         IsProgramOf text limit room tokens statements → stmts_level statements ≤ room }
+{}
+
+/// Expressions of a program are bounded in height by the limit on chains and the levels that may be opened: with the limits
+/// of the profile, 64 of each, by 65 * 65. So a walk down an expression needs so many steps at most.
+pub fn expressions_are_low()
+    ensures { (text : List ℕ) (limit room : ℕ) (tokens : List Token) (statements : Statements) →
+        IsProgramOf text (Some limit) room tokens statements → Every (λ e. height_of e ≤ suc limit * suc room) statements }
 {}
 
 /// Worked rows: what is read of some short lists of tokens, and where reading stops.

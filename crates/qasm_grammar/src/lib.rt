@@ -10,7 +10,7 @@
 mod laws;
 
 pub use laws::{
-    answers_are_right, programs_are_not_refused, programs_are_read_exactly,
+    answers_are_right, expressions_are_low, programs_are_not_refused, programs_are_read_exactly,
     programs_fit_their_room, programs_have_one_tree, refusals_are_one, worked_refusals,
     worked_rows,
 };
