@@ -43,7 +43,7 @@ impl<'m> Model for Machine<'m> {
     ghost Value = { RunValue };
 
     ghost view = { λ m. record {
-      of = m.module.now;
+      of = m.«module».now;
       block = m.block;
       item = m.item;
       registers = m.memory.registers.items;
@@ -52,7 +52,7 @@ impl<'m> Model for Machine<'m> {
 
     ghost invariant = { λ m. IsReady
         (record {
-          of = m.module.now;
+          of = m.«module».now;
           block = m.block;
           item = m.item;
           registers = m.memory.registers.items;
