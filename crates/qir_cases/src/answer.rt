@@ -47,6 +47,14 @@ pub fn answer(alloc: Global, text: &[u8]) -> Result<String> {
     }
 }
 
+/// What the reader alone says of a text.
+pub fn reading(alloc: Global, text: &[u8]) -> Result<String> {
+    match read(alloc, text)? {
+        Ok(_) => Ok(String::from_str(alloc, "read")?),
+        Err(refusal) => refused(alloc, refusal),
+    }
+}
+
 /// A text that passes, read, checked and written back, or the line of why it does not pass.
 pub fn copied(alloc: Global, text: &[u8]) -> Result<Vec<u8>> {
     let line = match read(alloc, text)? {

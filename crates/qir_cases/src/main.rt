@@ -13,6 +13,7 @@
 //   in front of the line). Further changes, each behind ` && `, are made in the same text, in a line from left to right.
 //   In NEW `\n`, `\r` and `\t` are LF, CR and a tab, `\y` is the byte 127 and `\x` the byte 255. Where NEW begins with
 //   `N times `, what follows stands N times, with `\k` for the number of the copy from 0, and `\l` for the next number.
+// - `read` and one of these: whether the text is read, without the checker.
 // - `prefixes`: how many prefixes of the text are refused, and the numbers of bytes of the others.
 //
 // With the word `copy`, standard input is a text, which is read, checked and written back, or else the line of its refusal is.
@@ -24,7 +25,7 @@
 mod answer;
 mod change;
 
-use answer::{answer, copied, passes, prefixes};
+use answer::{answer, copied, passes, prefixes, reading};
 use anyhow::{Context, Result, bail};
 use change::case_text;
 use std::alloc::Global;
@@ -72,13 +73,15 @@ fn show_case(rt: &impl Print, alloc: Global, text: &str, case: &str, shown: Show
         Shown::Answer => {
             let answer = if case == "prefixes" {
                 prefixes(alloc, text.as_bytes())?
+            } else if let Some(change) = case.strip_prefix("read ") {
+                reading(alloc, &case_text(alloc, text, change)?)?
             } else {
                 answer(alloc, &case_text(alloc, text, case)?)?
             };
             rt.println(format_args!("{case}: {answer}"))?;
         }
         Shown::AcceptedText => {
-            if case != "prefixes" {
+            if case != "prefixes" && !case.starts_with("read ") {
                 show_accepted(rt, &case_text(alloc, text, case)?, alloc)?;
             }
         }

@@ -7,8 +7,6 @@
 
 mod block;
 mod bytes;
-#[cfg(test)]
-mod cases;
 mod class;
 mod cursor;
 mod declaration;

@@ -1,9 +1,8 @@
-//! Texts that are read, and texts that are refused.
+//! A text that is read, and one that is refused. The table of the cases is that of the program `qir_cases`.
 
-use crate::cases::{CASES, MODULE};
 use crate::read_module;
 use qir_lexer::{MOST_BYTES, TextFault};
-use qir_module::items;
+use qir_module::{Module, items};
 use std::alloc::Global;
 use std::test::Fail;
 
@@ -36,129 +35,27 @@ attributes #1 = { "irreversible" }
 !3 = !{i32 1, !"dynamic_result_management", i1 false}
 "#;
 
-/// A line a row: what stands in the text, what takes its place, and what is said of the text. `\n` stands for the end
-/// of a line.
-const ROWS: &str = r#"ret i64 0 | ret i64 0 | labels 1, blocks 1, items 7, declarations 5
-  ret i64 0 | ; the end\n   ret  i64\n 0 | labels 1, blocks 1, items 7, declarations 5
-b0: | b0 : | refused N02 at 4:4
-c\00" | c\0" | refused N03 at 1:34
-ret i64 0 | ret i64 -0 | refused N04 at 10:11
-ret i64 0 | ret i1 0 | refused N05 at 10:7
-ret i64 0 | ret  i64 ; the end   0 | refused N05 at 11:1
-  ret i64 0 | ; the end | refused N05 at 11:1
-@0 = | @1 = | refused N06 at 1:1
-[2 x | [3 x | refused N07 at 1:33
-h__body(ptr null) | hh__body(ptr null) | refused N08 at 6:13
-ptr) #1 | ptr) | refused N09 at 16:14
-ret i64 0 | unreachable | refused N10 at 10:3
-adaptive_profile | full_profile | refused N11 at 19:48
-result_management", i1 false} | result_management", i1 false}\nx | refused N12 at 28:1
-"#;
-
-/// What is said of a text.
-fn said(alloc: Global, text: &[u8]) -> Result<String, Fail> {
+/// What is read of a text.
+fn read(alloc: Global, text: &[u8]) -> Result<Module, TextFault> {
     if text.len() > MOST_BYTES {
-        return Err("too long".into());
+        return Err(TextFault::Memory);
     }
-    match read_module(alloc, text) {
-        Ok(module) => {
-            let labels = module.labels.items.len();
-            let blocks = module.blocks.items.len();
-            let declarations = module.declarations.items.len();
-            let items = items(&module);
-            Ok(format!(in alloc;
-                "labels {labels}, blocks {blocks}, items {items}, declarations {declarations}"
-            )?)
-        }
-        Err(TextFault::Refused(refusal)) => {
-            let number = refusal.rule.number();
-            let line = refusal.at.line;
-            let column = refusal.at.column;
-            Ok(format!(in alloc; "refused N{number:02} at {line}:{column}")?)
-        }
-        Err(TextFault::Memory) => Err("no memory".into()),
-    }
-}
-
-/// The text with one part in place of another.
-fn changed(alloc: Global, old: &str, new: &str) -> Result<String, Fail> {
-    let (front, back) = COIN.split_once(old).ok_or("no such part")?;
-    let mut text = String::from_str(alloc, front)?;
-    text.push_str(new.replace(alloc, "\\n", "\n")?.as_str())?;
-    text.push_str(back)?;
-    Ok(text)
-}
-
-/// The module with one part of a line in place of another.
-fn changed_line(alloc: Global, number: usize, old: &str, new: &str) -> Result<String, Fail> {
-    let mut text = String::new(alloc);
-    let mut left = number;
-    for line in MODULE.lines() {
-        if left == 1 {
-            let (front, back) = line.split_once(old).ok_or("no such part")?;
-            text.push_str(front)?;
-            text.push_str(new)?;
-            text.push_str(back)?;
-        } else {
-            text.push_str(line)?;
-        }
-        text.push('\n')?;
-        left = left.saturating_sub(1);
-    }
-    Ok(text)
-}
-
-/// Whether a text is read, or the rule that it breaks and where.
-fn verdict(alloc: Global, text: &[u8]) -> Result<String, Fail> {
-    let found = said(alloc, text)?;
-    if found.as_str().starts_with("refused") {
-        return Ok(found);
-    }
-    Ok(String::from_str(alloc, "read")?)
-}
-
-/// What is said of a change of the module, and what the row says.
-fn check_case(alloc: Global, row: &str) -> Result<(String, String), Fail> {
-    let (number, rest) = row.split_once(" | ").ok_or("no part")?;
-    let (old, rest) = rest.split_once(" | ").ok_or("no change")?;
-    let (new, wanted) = rest.split_once(" | ").ok_or("no answer")?;
-    let number = number.parse::<usize>().ok().ok_or("no number")?;
-    let lines = new.replace(alloc, "\\n", "\n")?;
-    let spelled = lines.as_str().replace(alloc, "\\t", "\t")?;
-    let text = changed_line(alloc, number, old, spelled.as_str())?;
-    let found = verdict(alloc, text.as_bytes())?;
-    Ok((found, String::from_str(alloc, wanted)?))
+    read_module(alloc, text)
 }
 
 #[test]
-fn reads_and_refuses_each_change(rt: HostRuntime) -> Result<(), Fail> {
-    for row in CASES.lines() {
-        let (found, wanted) = check_case(rt.alloc(), row)?;
-        assert_eq!(rt; found, wanted, "{row}");
-    }
+fn reads_a_module(rt: HostRuntime) -> Result<(), Fail> {
+    let module = read(rt.alloc(), COIN.as_bytes()).ok().ok_or("not read")?;
+    assert_eq!(rt; module.labels.items.len(), 1);
+    assert_eq!(rt; module.blocks.items.len(), 1);
+    assert_eq!(rt; module.declarations.items.len(), 5);
+    assert_eq!(rt; items(&module), 7);
     Ok(())
 }
 
 #[test]
-fn reads_and_refuses(rt: HostRuntime) -> Result<(), Fail> {
-    for row in ROWS.lines() {
-        let (old, rest) = row.split_once(" | ").ok_or("no part")?;
-        let (new, wanted) = rest.split_once(" | ").ok_or("no answer")?;
-        let text = changed(rt.alloc(), old, new)?;
-        let found = said(rt.alloc(), text.as_bytes())?;
-        assert_eq!(rt; found.as_str(), wanted);
-    }
-    Ok(())
-}
-
-/// Of the fronts of the text, only that without its last line feed is a module.
-#[test]
-fn refuses_each_front(rt: HostRuntime) -> Result<(), Fail> {
+fn refuses_a_text_without_its_end(rt: HostRuntime) {
     let text = COIN.as_bytes();
-    for end in 0..text.len() {
-        let found = said(rt.alloc(), &text[..end])?;
-        let is_refused = found.as_str().starts_with("refused");
-        assert_eq!(rt; is_refused, end + 1 < text.len(), "the first {end} bytes");
-    }
-    Ok(())
+    let end = text.len().saturating_sub(10);
+    assert!(rt; matches!(&read(rt.alloc(), &text[..end]), Err(TextFault::Refused(_))));
 }
