@@ -1,0 +1,25 @@
+//! Numbers from a seed.
+ghost use Rattle.std.specs.Prelude.{◌≡◌};
+ghost use Rattle.qasm_gen.specs.Generated.{drawn, next};
+
+/// The multiplier and the increment of a step.
+const MULTIPLIER: u64 = 6_364_136_223_846_793_005;
+
+const INCREMENT: u64 = 1_442_695_040_888_963_407;
+
+/// A generator of numbers, by its state.
+#[derive(Drop)]
+pub(crate) struct Draws {
+    pub(crate) state: u64,
+}
+
+impl Draws {
+    /// The next number.
+    pub(crate) fn draw(&mut self) -> u32
+        ensures state { self.new.state ≡ next self.old.state }
+        ensures drawn { result ≡ drawn self.new.state }
+    {
+        self.state = self.state.wrapping_mul(MULTIPLIER).wrapping_add(INCREMENT);
+        (self.state >> 32) as u32
+    }
+}
