@@ -1,0 +1,17 @@
+pub mod Arguing
+pub mod ArgumentLists
+pub mod Bodies
+pub mod ByKind
+pub mod Constancy
+pub mod Entered
+pub mod Entering
+pub mod Meant
+pub mod Members
+pub mod Naming
+pub mod Parts
+pub mod Paying
+pub mod Serving
+pub mod Texts
+pub mod TurnRows
+pub mod Turning
+pub mod Walking

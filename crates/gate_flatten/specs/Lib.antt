@@ -1,0 +1,9 @@
+pub mod Applications
+pub mod Expand
+pub mod Modifiers
+pub mod Outer
+pub mod Rows
+pub mod Seen
+pub mod Served
+pub mod Serves
+pub mod Walks
