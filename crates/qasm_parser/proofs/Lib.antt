@@ -1,0 +1,15 @@
+pub mod Signs
+pub mod Bits
+pub mod Taking
+pub mod Growing
+pub mod Ready
+pub mod Listing
+pub mod Repeating
+pub mod Chains
+pub mod Leaves
+pub mod Exits
+pub mod Showing
+pub mod Reading
+pub mod Types
+pub mod Nodes
+pub mod Telling

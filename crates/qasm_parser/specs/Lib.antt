@@ -1,0 +1,5 @@
+pub mod State
+pub mod Inside
+pub mod Shows
+pub mod Kinds
+pub mod Answer
