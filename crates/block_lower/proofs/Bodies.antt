@@ -1,5 +1,5 @@
 -- A body, one statement further.
-use Rattle.std.proofs.Common.{◌≡◌, ℕ, zero, suc, ◌+◌, ◌<◌, ◌≤◌, All, List, [], ◌∷◌, length, get_or, drop, refl, sym, ap, ◌∙◌, subst, arith}
+use Rattle.std.proofs.Common.{◌≡◌, ℕ, zero, suc, ◌+◌, ◌<◌, ◌≤◌, All, List, [], ◌∷◌, length, get_or, drop, true, refl, sym, ap, ◌∙◌, subst, arith}
 use Rattle.std.proofs.lemmas.List.Elements.{All-get_or}
 use Rattle.core_ir.specs.declared.statement.CoreStmt.{CoreStmt}
 use Rattle.core_ir.specs.declared.expression.CoreExpr.{CoreExpr}
@@ -7,9 +7,13 @@ use Rattle.core_ir.specs.Core.{Core}
 use Rattle.core_ir.specs.Tree.{Stmt, Seq, stmt_of, body_of}
 use Rattle.block_graph.specs.Work.{Work}
 use Rattle.block_graph.specs.Lowering.{Coder, lower_of}
-use Rattle.block_lower.specs.Marks.{Marks, seq_marks, straight_marks, passing, marks}
+use Rattle.block_lower.specs.Marks.{Marks, seq_marks, straight_marks, passing, is_skipped, marks}
 use Rattle.block_lower.specs.Parts.{IsSmall, AreLater}
+use Rattle.core_ir.specs.Laws.{StmtsUnfold}
+use Rattle.core_ir.specs.WellFormed.{NamesLater}
+use Rattle.block_lower.proofs.Later.{tree_is}
 use Rattle.block_lower.proofs.Rising.{statement_small}
+use Rattle.block_lower.proofs.Skipping.{skipped_marks, seq_straight}
 
 drop_next : (js : List ℕ) (i d : ℕ) → i < length js → drop i js ≡ get_or js i d ∷ drop (i + 1) js
 drop_next [] i d l = absurd (omega (arith, l))
@@ -55,3 +59,12 @@ pub marks_next : (exprs : List CoreExpr) (stmts : List CoreStmt) (body : List �
     → more ≡ seq_marks first all → more ≡ marks exprs (body_of stmts (drop i body)) c
 marks_next exprs stmts body i k c first all more l is one behind made =
     made ∙ ap (λ (m : Marks). seq_marks m all) one ∙ ap (seq_marks (marks exprs (stmt_of stmts k) c)) behind ∙ sym (ap (λ (s : Stmt). marks exprs s c) (body_next stmts body i k l is))
+
+pub marks_skip : (exprs : List CoreExpr) (stmts : List CoreStmt) (body : List ℕ) (i k c : ℕ) (s : CoreStmt) (all : Marks) → StmtsUnfold → NamesLater stmts → i < length body → k ≡ get_or body i 0 → k < length stmts → s ≡ get_or stmts k s
+    → is_skipped s c ≡ true → all ≡ marks exprs (body_of stmts (drop (i + 1) body)) c → all ≡ marks exprs (body_of stmts (drop i body)) c
+marks_skip exprs stmts body i k c s all unfolds later l is there node skipped behind =
+    let straight : marks exprs (stmt_of stmts k) c ≡ straight_marks passing = ap (λ (t : Stmt). marks exprs t c) (tree_is stmts k s unfolds later there node) ∙ skipped_marks exprs (stmt_of stmts) s c skipped in
+    behind
+    ∙ sym (seq_straight (marks exprs (body_of stmts (drop (i + 1) body)) c))
+    ∙ sym (ap (λ (m : Marks). seq_marks m (marks exprs (body_of stmts (drop (i + 1) body)) c)) straight)
+    ∙ sym (ap (λ (t : Stmt). marks exprs t c) (body_next stmts body i k l is))

@@ -1,15 +1,14 @@
 -- A core that fits, as code holds it, is one that the laws of the block graph speak of.
-use Rattle.std.proofs.Common.{◌≡◌, ℕ, ◌+◌, ◌*◌, ◌<◌, ◌≤◌, ◌^◌, List, ◌∷◌, [], ◌++◌, map, pos, length, Option, Some, None, arith, length-append}
+use Rattle.std.proofs.Common.{◌+◌, ◌<◌, ◌^◌, List, ◌∷◌, [], ◌++◌, map, pos, length, Option, Some, None, arith, length-append}
 use Rattle.qir_module.specs.declared.instruction.Last.TheVariants.{Return}
 use Rattle.core_ir.specs.declared.program.Output.{Output}
 use Rattle.core_ir.specs.Core.{Core}
-use Rattle.core_ir.specs.Size.{weight, knots}
 use Rattle.core_ir.specs.Tree.{program_of}
 use Rattle.core_ir.specs.WellFormed.{Fits}
 use Rattle.expr_lower.specs.Coded.{coded, CodesExpressions}
 use Rattle.block_graph.specs.Bounds.{IsHeld}
 use Rattle.block_graph.specs.Laws.{IsLowerable, WorkIsSmall}
-use Rattle.block_graph.specs.Work.{Draft, Open, Work}
+use Rattle.block_graph.specs.Work.{Open, Work}
 use Rattle.block_graph.specs.Lowering.{when_open, lower_of, first_work, record_call, end_work}
 use Rattle.block_lower.specs.Parts.{IsSmall}
 use Rattle.block_lower.proofs.Labels.{lower_makes}

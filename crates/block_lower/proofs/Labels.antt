@@ -1,6 +1,5 @@
 -- How many labels the lowering makes.
-use Rattle.std.proofs.Common.{◌≡◌, ℕ, zero, suc, ◌+◌, ◌*◌, ◌<◌, ◌≤◌, if◌then◌else◌, Bool, true, false, ◌&&◌, List, [], ◌∷◌, ◌++◌, length, Option, Some, None, refl, arith, length-append, length-set}
-use Rattle.std.specs.Prelude.{slice_set}
+use Rattle.std.proofs.Common.{ℕ, ◌+◌, ◌*◌, ◌≤◌, if◌then◌else◌, Bool, true, false, ◌&&◌, List, [], ◌∷◌, ◌++◌, length, Option, Some, None, arith, length-append, length-set}
 use Rattle.qir_module.specs.declared.instruction.Operand.{Operand}
 use Rattle.core_ir.specs.declared.expression.CellKind.{CellKind}
 use Rattle.core_ir.specs.Core.{Core}

@@ -11,5 +11,6 @@ pub mod Placing
 pub mod Ranges
 pub mod Rising
 pub mod Settling
+pub mod Skipping
 pub mod Storing
 pub mod Zeros

@@ -1,14 +1,14 @@
 -- The marks are what they should be.
-use Rattle.std.proofs.Common.{◌≡◌, ◌≢◌, ℕ, zero, suc, ◌⊎◌, inl, inr, Bool, true, false, not, ◌&&◌, ◌||◌, List, [], ◌∷◌, ◌++◌, replicate, get_or, refl, sym, ap, ◌∙◌, ⊎_elim, arith}
+use Rattle.std.proofs.Common.{◌≡◌, ◌≢◌, ℕ, zero, suc, ◌⊎◌, inl, inr, Bool, true, false, ◌&&◌, ◌||◌, List, [], ◌∷◌, ◌++◌, replicate, get_or, refl, sym, ap, ◌∙◌, ⊎_elim, arith}
 use Rattle.std.specs.Prelude.{nat_eq}
-use Rattle.std.proofs.lemmas.Bool.{eq-eqb, ne_eqb, eqb-true}
+use Rattle.std.proofs.lemmas.Bool.{eq-eqb, ne_eqb}
 use Rattle.core_ir.specs.declared.expression.CoreExpr.{CoreExpr}
 use Rattle.core_ir.specs.Tree.{Stmt, Skip, Seq, Assign, Gate, Reset, Measure, If, Block, Loop, Leave, Again}
 use Rattle.core_ir.specs.Ways.{Exit, Falls, Leaves, Agains, is_fall, reaches, passes, stores}
 use Rattle.block_lower.specs.declared.mark.Mark.{Mark}
 use Rattle.block_lower.specs.Marks.{no_mark, passing, mark_at, either_mark, then_mark, back_mark, either_marks, then_marks, back_marks, tail_marks, at_marks, straight_marks, given_mark, measured_mark, marks}
 
-or_false : (a : Bool) → (a || false) ≡ a
+pub or_false : (a : Bool) → (a || false) ≡ a
 or_false true = refl
 or_false false = refl
 
@@ -20,7 +20,7 @@ and_false false = refl
 abbrev pub facts : List CoreExpr → Stmt → ℕ → Exit → Mark
 facts exprs s c x = record { reached = reaches s x; passes = passes s c x; any = stores true exprs s c x; other = stores false exprs s c x }
 
-mark_eq : (a b : Mark) → a.reached ≡ b.reached → a.passes ≡ b.passes → a.any ≡ b.any → a.other ≡ b.other → a ≡ b
+pub mark_eq : (a b : Mark) → a.reached ≡ b.reached → a.passes ≡ b.passes → a.any ≡ b.any → a.other ≡ b.other → a ≡ b
 mark_eq a b e f g h =
     ap (λ x. record a { reached = x }) e ∙ ap (λ x. record a { reached = b.reached; passes = x }) f ∙ ap (λ x. record a { reached = b.reached; passes = b.passes; any = x }) g ∙ ap (λ x. record b { other = x }) h
 

@@ -1,5 +1,5 @@
 -- The expressions that statements name are there.
-use Rattle.std.proofs.Common.{◌≡◌, ℕ, zero, suc, ◌<◌, ◌≤◌, ⊎_elim, All, List, [], ◌∷◌, ◌++◌, length, get_or, Option, Some, None, refl, sym, ap, ◌∙◌, subst, arith}
+use Rattle.std.proofs.Common.{◌≡◌, ℕ, zero, suc, ◌<◌, ◌≤◌, ⊎_elim, All, List, [], ◌∷◌, length, get_or, Option, Some, None, refl, sym, ap, ◌∙◌, subst, arith}
 use Rattle.std.specs.Prelude.{slice_get}
 use Rattle.std.specs.List.{AllByRecursion, flat_map}
 use Rattle.std.proofs.lemmas.Bool.{cases_lt}
@@ -16,7 +16,7 @@ use Rattle.core_ir.specs.declared.statement.LeafCall.{LeafCall}
 use Rattle.core_ir.specs.Core.{Core}
 use Rattle.core_ir.specs.Tree.{node_expr, expr_within, expr_of}
 use Rattle.core_ir.specs.Size.{running_in, pair_exprs, leaf_exprs}
-use Rattle.core_ir.specs.WellFormed.{kind_of, kind_at, PairFits, ArgFits, ArgsFit, TakesRow, LeafFits, StmtFits, IsWellFormed}
+use Rattle.core_ir.specs.WellFormed.{kind_of, kind_at, PairFits, ArgsFit, TakesRow, LeafFits, StmtFits, IsWellFormed}
 
 get_past : {A : Type 0} (xs : List A) (k : ℕ) → length xs ≤ k → slice_get xs k ≡ None
 get_past [] k le = refl

@@ -1,17 +1,15 @@
 -- The numbers of a graph never fall while statements are lowered, so that what is small at the end was small before.
-use Rattle.std.proofs.Common.{◌≡◌, ℕ, zero, suc, ◌+◌, ◌<◌, ◌≤◌, ◌^◌, if◌then◌else◌, Bool, true, false, List, [], ◌∷◌, ◌++◌, length, pos, Option, Some, None, refl, arith, length-append, length-set}
-use Rattle.std.specs.Prelude.{slice_set}
+use Rattle.std.proofs.Common.{◌≡◌, ℕ, suc, ◌+◌, ◌<◌, ◌≤◌, if◌then◌else◌, Bool, true, false, List, [], ◌∷◌, ◌++◌, length, Option, Some, None, refl, arith, length-append, length-set}
 use Rattle.qq_base.specs.declared.run.QubitId.{QubitId}
 use Rattle.qir_module.specs.declared.instruction.Operand.{Operand}
 use Rattle.core_ir.specs.declared.expression.CellKind.{CellKind}
-use Rattle.core_ir.specs.declared.program.Output.{Output}
 use Rattle.core_ir.specs.Core.{Core}
 use Rattle.core_ir.specs.Tree.{Stmt, Skip, Seq, Assign, Gate, Reset, Measure, If, Block, Loop, Leave, Again}
 use Rattle.core_ir.specs.Ways.{Falls, reaches}
 use Rattle.phi_place.specs.State.{CellState}
 use Rattle.phi_place.specs.Phis.{ways_differ}
-use Rattle.block_graph.specs.Work.{Draft, Level, Open, Work}
-use Rattle.block_graph.specs.Lowering.{Coder, when_open, assign_work, gate_work, reset_work, measure_work, leave_work, again_work, leave_zero, next_for, join_work, open_end, close_end, start_needs, open_loop, close_start, open_first, fall_work, fall_ways, open_second, join_bodies, two_bodies, lower_of}
+use Rattle.block_graph.specs.Work.{Level, Open, Work}
+use Rattle.block_graph.specs.Lowering.{Coder, when_open, measure_work, leave_zero, next_for, join_work, open_end, close_end, start_needs, open_loop, close_start, open_first, fall_work, fall_ways, open_second, join_bodies, two_bodies, lower_of}
 use Rattle.block_lower.specs.Parts.{IsSmall, choice_of}
 
 pub record Rises (w v : Work) : Type 0 where

@@ -1,10 +1,10 @@
 -- The node of an expression tells whether it is the constant 0 or false.
-use Rattle.std.proofs.Common.{◌≡◌, ℕ, zero, suc, ◌<◌, ◌≤◌, Bool, true, false, List, [], ◌∷◌, length, get_or, ℤ, pos, negsuc, Option, Some, None, refl, sym, ap, ◌∙◌, arith}
+use Rattle.std.proofs.Common.{◌≡◌, ℕ, zero, suc, ◌<◌, ◌≤◌, Bool, true, false, List, [], ◌∷◌, length, get_or, ℤ, pos, negsuc, Option, Some, None, refl, ap, ◌∙◌, arith}
 use Rattle.std.specs.Prelude.{slice_get, IsTrue, ◌↔◌}
 use Rattle.std.proofs.lemmas.Option.{slice_get-get_or}
 use Rattle.core_ir.specs.declared.expression.CoreExpr.{CoreExpr}
 use Rattle.core_ir.specs.declared.expression.CoreExpr.TheVariants.{Cell as CellNode, Truth as TruthNode, Number as NumberNode, Op as OpNode, Widen as WidenNode, Narrow as NarrowNode, Choose as ChooseNode}
-use Rattle.core_ir.specs.Tree.{Expr, Number, Cut, node_expr, expr_within, expr_of}
+use Rattle.core_ir.specs.Tree.{Expr, node_expr, expr_within, expr_of}
 use Rattle.core_ir.specs.Ways.{is_zero}
 use Rattle.block_lower.specs.Marks.{is_zero_node}
 

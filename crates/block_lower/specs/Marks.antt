@@ -2,6 +2,8 @@
 -- from the inside out, with each statement looked at once.
 use Rattle.std.specs.Prelude.{ℕ, zero, suc, Bool, true, false, not, ◌&&◌, ◌||◌, List, [], ◌∷◌, get_or, Option, Some, None}
 use Rattle.core_ir.specs.declared.expression.CoreExpr.{CoreExpr}
+use Rattle.core_ir.specs.declared.statement.CoreStmt.{CoreStmt}
+use Rattle.core_ir.specs.declared.statement.CoreStmt.TheVariants.{Assign as AssignNode, Gate as GateNode, Reset as ResetNode, Measure as MeasureNode}
 use Rattle.core_ir.specs.Tree.{Cut, node_expr, Stmt, Skip, Seq, Assign, Gate, Reset, Measure, If, Block, Loop, Leave, Again}
 use Rattle.core_ir.specs.Ways.{Exit, Falls, Leaves, Agains, given_last, names_cell, is_into, is_zero, counts}
 use Rattle.block_lower.specs.declared.mark.Mark.{Mark}
@@ -77,6 +79,14 @@ given_mark exprs pairs c = record {
 
 abbrev pub measured_mark : Option ℕ → ℕ → Mark
 measured_mark into c = record { reached = true; passes = not (is_into into c); any = is_into into c; other = is_into into c }
+
+-- a statement that goes on behind it on all ways and does not assign the cell
+abbrev pub is_skipped : CoreStmt → ℕ → Bool
+is_skipped (AssignNode pairs) c = not (names_cell pairs c)
+is_skipped (GateNode leaf) c = true
+is_skipped (ResetNode qubit) c = true
+is_skipped (MeasureNode qubit into) c = not (is_into into c)
+is_skipped _ c = false
 
 abbrev pub seq_marks : Marks → Marks → Marks
 seq_marks a b = record {

@@ -12,7 +12,7 @@ ghost use Rattle.block_graph.specs.Lowering.{start_needs};
 ghost use Rattle.block_lower.specs.Marks.{marks};
 ghost use Rattle.block_lower.specs.Parts.{AreLater};
 
-use crate::mark::{given_mark, measured_mark, passing};
+use crate::mark::{given_mark, is_skipped, measured_mark, passing};
 use crate::marks::{Marks, block_marks, if_marks, loop_marks, seq_marks};
 use block_graph::laws::stores_are_assigned;
 use core_ir::laws::statements_unfold;
@@ -75,7 +75,7 @@ fn mark_node(
 
 /// The marks of a cell at the exits of a body, whose statements stand at `least` or behind it.
 #[cycle(marking)]
-#[tactic(auto, using(crate::proofs::Bodies::marks_none, crate::proofs::Bodies::marks_next, crate::proofs::Bodies::later_at))]
+#[tactic(auto, using(crate::proofs::Bodies::marks_none, crate::proofs::Bodies::marks_next, crate::proofs::Bodies::marks_skip, crate::proofs::Bodies::later_at))]
 fn mark_body(
     alloc: Global,
     core: &Core,
@@ -87,11 +87,16 @@ fn mark_body(
     requires within { All (AreLater least (length core.now.stmts)) body.now }
     ensures { IfOk result (λ m. m ≡ marks core.now.exprs (body_of core.now.stmts body.now) c) }
 {
+    statements_unfold();
     let mut all = Marks::straight(alloc, passing());
     let mut left = body.len();
     while left > 0 {
         left -= 1;
-        let first = mark_stmt(alloc, core, body[left], c)?;
+        let k = body[left];
+        if is_skipped(&core.stmts[k as usize], c) {
+            continue;
+        }
+        let first = mark_stmt(alloc, core, k, c)?;
         all = seq_marks(alloc, &first, &all)?;
     }
     Ok(all)

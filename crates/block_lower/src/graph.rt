@@ -7,7 +7,7 @@ ghost use Rattle.core_ir.specs.Tree.{body_of};
 ghost use Rattle.core_ir.specs.WellFormed.{Fits, PairFits, LeafFits};
 ghost use Rattle.phi_place.specs.Phis.{is_listed};
 ghost use Rattle.expr_lower.specs.Coded.{coded};
-ghost use Rattle.block_graph.specs.Lowering.{when_open, assign_work, gate_work, reset_work, measure_work, leave_work, again_work, join_work, open_end, close_end, start_needs, open_loop, close_start, open_first, fall_work, fall_ways, open_second, join_bodies, first_operand, branch_last, first_work, end_work, record_call, module_of};
+ghost use Rattle.block_graph.specs.Lowering.{when_open, assign_work, gate_work, reset_work, measure_work, leave_work, again_work, open_end, close_end, start_needs, open_loop, close_start, open_first, fall_work, fall_ways, open_second, join_bodies, first_operand, branch_last, first_work, end_work, record_call, module_of};
 ghost use Rattle.block_lower.specs.Parts.{IsSmall, AreLater, joined, looped};
 
 use crate::calls::{
@@ -94,6 +94,7 @@ impl Work {
     }
 
     #[tactic(auto, using(crate::proofs::Ranges::pairs_within))]
+    #[inline(never)]
     pub fn assign(&mut self, core: &Core, pairs: &[(u32, u32)]) -> Result<(), NoMemory>
         requires fits { Fits core.now }
         requires pairs { All (PairFits core.now) pairs.now }
@@ -113,6 +114,7 @@ impl Work {
     }
 
     #[tactic(auto, using(crate::proofs::Ranges::leaf_within))]
+    #[inline(never)]
     pub fn gate(&mut self, core: &Core, leaf: &LeafCall) -> Result<(), NoMemory>
         requires fits { Fits core.now }
         requires leaf { LeafFits core.now leaf.now }
@@ -131,6 +133,7 @@ impl Work {
         }
     }
 
+    #[inline(never)]
     pub fn reset(&mut self, qubit: QubitId) -> Result<(), NoMemory>
         ensures { OnOk result (self.new ≡ when_open self.old.now self.old (reset_work qubit self.old)) }
     {
@@ -144,6 +147,7 @@ impl Work {
         }
     }
 
+    #[inline(never)]
     pub fn measure(&mut self, qubit: QubitId, into: Option<u32>) -> Result<(), NoMemory>
         requires { IsSmall self.old }
         ensures { OnOk result (self.new ≡ when_open self.old.now self.old (measure_work qubit into self.old)) }
@@ -166,6 +170,7 @@ impl Work {
     }
 
     /// A way to the end of the k-th enclosing block or loop.
+    #[inline(never)]
     pub fn leave(&mut self, k: u32) -> Result<(), NoMemory>
         requires { IsSmall self.old }
         ensures { OnOk result (self.new ≡ when_open self.old.now self.old (leave_work k self.old)) }
@@ -183,6 +188,7 @@ impl Work {
     }
 
     /// A way back to the start of the k-th enclosing loop.
+    #[inline(never)]
     pub fn again(&mut self, k: u32) -> Result<(), NoMemory>
         requires { IsSmall self.old }
         ensures { OnOk result (self.new ≡ when_open self.old.now self.old (again_work k self.old)) }
@@ -239,6 +245,7 @@ impl Work {
     }
 
     /// A block or loop whose end is open.
+    #[inline(never)]
     pub fn open_end(&mut self) -> Result<(), NoMemory>
         requires { IsSmall self.old }
         ensures { OnOk result (self.new ≡ open_end self.old) }
@@ -258,6 +265,7 @@ impl Work {
 
     /// The innermost end: the block in which the ways to it join.
     #[tactic(auto, using(crate::proofs::Placing::joined_is))]
+    #[inline(never)]
     pub fn close_end(&mut self, kinds: &[CellKind]) -> Result<(), NoMemory>
         requires kinds { length kinds.now ≤ 2 ^ 31 }
         requires small { IsSmall self.old }
@@ -275,6 +283,7 @@ impl Work {
 
     /// The start of a loop with this body, behind the block that was open.
     #[tactic(auto, using(crate::proofs::Placing::looped_is))]
+    #[inline(never)]
     pub fn open_loop(
         &mut self,
         core: &Core,
@@ -364,6 +373,7 @@ impl Work {
     }
 
     /// The phis of the innermost start, with all ways to it.
+    #[inline(never)]
     pub fn close_start(&mut self, kinds: &[CellKind], start: LoopStart) -> Result<(), NoMemory>
         requires kinds { length kinds.now ≤ 2 ^ 31 }
         requires ascends { IsStrictlyIncreasing start.cells.items }
@@ -382,6 +392,7 @@ impl Work {
 
 impl Work {
     /// The block that chooses, and the first body of the choice.
+    #[inline(never)]
     pub fn open_first(
         &mut self,
         core: &Core,
@@ -452,6 +463,7 @@ impl Work {
     }
 
     /// From the first body of a choice to the second: the way where the first ends, if it does.
+    #[inline(never)]
     pub fn turn(&mut self, choice: Choice) -> Result<Vec<CellState>, NoMemory>
         requires small { IsSmall self.old }
         requires behind { IsSmall (fall_work choice.join self.old) }
@@ -466,6 +478,7 @@ impl Work {
 
     /// Behind the second body of a choice.
     #[tactic(auto, using(crate::proofs::Placing::joined_is, crate::proofs::Rising::bodies_small, crate::proofs::Rising::joining_small))]
+    #[inline(never)]
     pub fn join_bodies(
         &mut self,
         kinds: &[CellKind],

@@ -2,10 +2,10 @@
 
 ghost use Rattle.std.specs.Prelude.{◌≡◌, ◌&&◌, ◌||◌, ◌↔◌, IsTrue, pos, None};
 ghost use Rattle.core_ir.specs.Tree.{expr_of};
-ghost use Rattle.core_ir.specs.Ways.{is_zero, counts, given_last, names_cell, is_into};
-ghost use Rattle.block_lower.specs.Marks.{is_zero_node, no_mark, passing, either_mark, then_mark, back_mark, given_mark, measured_mark};
+ghost use Rattle.core_ir.specs.Ways.{is_zero, counts, given_last, names_cell};
+ghost use Rattle.block_lower.specs.Marks.{is_zero_node, no_mark, passing, either_mark, then_mark, back_mark, given_mark, measured_mark, is_skipped};
 
-use core_ir::CoreExpr;
+use core_ir::{CoreExpr, CoreStmt};
 
 /// Of the ways to one exit: what some of them do with the cell.
 #[derive(Clone, Copy)]
@@ -170,5 +170,17 @@ pub fn measured_mark(into: Option<u32>, c: u32) -> Mark
         passes: !hit,
         any: hit,
         other: hit,
+    }
+}
+
+/// Whether a statement goes on behind it on all ways and does not assign the cell, as most do. It has no bodies.
+pub fn is_skipped(stmt: &CoreStmt, c: u32) -> bool
+    ensures { result ≡ is_skipped stmt.now c }
+{
+    match stmt {
+        CoreStmt::Assign(pairs) => !names_cell(&pairs.items, c),
+        CoreStmt::Gate(_) | CoreStmt::Reset(_) => true,
+        CoreStmt::Measure { into, .. } => *into != Some(c),
+        _ => false,
     }
 }

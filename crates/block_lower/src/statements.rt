@@ -1,6 +1,6 @@
 //! The lowering of a core.
 
-ghost use Rattle.std.specs.Prelude.{◌≡◌, ◌<◌, ◌≤◌, ◌^◌, ℕ, Bool, List, length, All, Some, IfOk, OnOk};
+ghost use Rattle.std.specs.Prelude.{◌≡◌, ◌<◌, ℕ, Bool, List, length, All, Some, IfOk, OnOk};
 ghost use Rattle.qir_module.specs.Machine.{machine_run};
 ghost use Rattle.qir_module.specs.Numbered.{IsNumbered};
 ghost use Rattle.qir_module.specs.Passes.{Passes};
@@ -69,6 +69,7 @@ fn lower_node(work: &mut Work, core: &Core, stmt: &CoreStmt, least: usize) -> Re
 
 /// Lowers a choice. A body that never reaches its end is lowered first, so that the block that goes on is the last.
 #[cycle(lowering)]
+#[inline(never)]
 fn lower_if(
     work: &mut Work,
     core: &Core,
@@ -96,6 +97,7 @@ fn lower_if(
 
 /// Lowers a choice with its bodies in this order; the test holds for the first or for the second.
 #[cycle(lowering)]
+#[inline(never)]
 fn lower_choice(
     work: &mut Work,
     core: &Core,
@@ -122,6 +124,7 @@ fn lower_choice(
 }
 
 #[cycle(lowering)]
+#[inline(never)]
 fn lower_block(work: &mut Work, core: &Core, body: &[u32], least: usize) -> Result<(), NoMemory>
     requires fits { Fits core.now }
     requires within { All (AreLater least (length core.now.stmts)) body.now }
@@ -139,6 +142,7 @@ fn lower_block(work: &mut Work, core: &Core, body: &[u32], least: usize) -> Resu
 }
 
 #[cycle(lowering)]
+#[inline(never)]
 fn lower_loop(work: &mut Work, core: &Core, body: &[u32], least: usize) -> Result<(), NoMemory>
     requires fits { Fits core.now }
     requires within { All (AreLater least (length core.now.stmts)) body.now }

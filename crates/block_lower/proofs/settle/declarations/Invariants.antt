@@ -1,7 +1,5 @@
-use Rattle.std.proofs.Common.{◌≡◌, ◌-◌, ◌++◌, map}
-use Rattle.std.specs.Prelude.{filter}
-use Rattle.qir_module.specs.declared.function.Function.{Function}
-use Rattle.qir_module.specs.Numbered.{called_functions, is_among, counted}
+use Rattle.std.proofs.Common.{◌≡◌, ◌-◌, ◌++◌}
+use Rattle.qir_module.specs.Numbered.{called_functions}
 use Rattle.block_graph.specs.Lowering.{declared_of}
 use Rattle.block_lower.specs.Parts.{declared_from}
 use Rattle.block_lower.proofs.settle.declarations.Given as goal
