@@ -7,7 +7,7 @@ use Rattle.std.proofs.lemmas.Option.{slice_get_past}
 use Rattle.core_ir.specs.declared.statement.CoreStmt.{CoreStmt}
 use Rattle.core_ir.specs.declared.statement.CoreStmt.TheVariants.{Assign as AssignNode, Gate as GateNode, Reset as ResetNode, Measure as MeasureNode, If as IfNode, Block as BlockNode, Loop as LoopNode, Leave as LeaveNode, Again as AgainNode}
 use Rattle.core_ir.specs.Tree.{Stmt, Seq, If, Block, Loop, sequence, node_stmt, stmt_within, stmt_of, body_of}
-use Rattle.core_ir.specs.Levels.{opens, levels_below, LevelFits, LevelsFit}
+use Rattle.core_ir.specs.Levels.{opens, levels_below, LevelFits, LevelsFit, JumpHas}
 use Rattle.core_ir.specs.WellFormed.{inner_of, bodies_in, times, IsLater, NamesLater, StandOnce, BodiesStand, HasLevels}
 use Rattle.core_ir.proofs.Bodies.{member, times_here, times_behind, times_first, times_second, times_append, times_one, times_two, body_with}
 
@@ -106,11 +106,6 @@ one_has t (k ∷ js) ends starts j has there = here (nat_eq k j) refl there (one
 abbrev pub InnerHas : (ℕ → Stmt) → Option CoreStmt → ℕ → ℕ → Type 0
 InnerHas t o ends starts = (j : ℕ) → 0 < times j (inner_of o) → HasLevels (t j) (opens false o + ends) (opens true o + starts)
 
-abbrev pub JumpHas : Option CoreStmt → ℕ → ℕ → Type 0
-JumpHas (Some (LeaveNode n)) ends starts = n < ends
-JumpHas (Some (AgainNode n)) ends starts = n < starts
-JumpHas _ ends starts = Unit {0}
-
 zero_more : (t : Stmt) (ends starts : ℕ) → HasLevels t (0 + ends) (0 + starts) → HasLevels t ends starts
 zero_more t ends starts has =
     let e : 0 + ends ≡ ends = omega arith in
@@ -184,7 +179,7 @@ HasAround stmts t k = HasLevels t (around false stmts k) (around true stmts k)
 has_as : (t : Stmt) (e f s u : ℕ) → e ≡ f → s ≡ u → HasLevels t e s → HasLevels t f u
 has_as t e f s u same also has = subst (λ (n : ℕ). HasLevels t f n) also (subst (λ (n : ℕ). HasLevels t n s) same has)
 
-jump_here : (stmts : List CoreStmt) (k : ℕ) (o : Option CoreStmt) → LevelFits stmts k o → JumpHas o (around false stmts k) (around true stmts k)
+pub jump_here : (stmts : List CoreStmt) (k : ℕ) (o : Option CoreStmt) → LevelFits stmts k o → JumpHas o (around false stmts k) (around true stmts k)
 jump_here stmts k None fits = tt
 jump_here stmts k (Some (AssignNode pairs)) fits = tt
 jump_here stmts k (Some (GateNode leaf)) fits = tt
@@ -196,7 +191,7 @@ jump_here stmts k (Some (LoopNode a)) fits = tt
 jump_here stmts k (Some (LeaveNode n)) fits = fits
 jump_here stmts k (Some (AgainNode n)) fits = fits
 
-fits_here : (stmts : List CoreStmt) (k : ℕ) (o : Option CoreStmt) → JumpHas o (around false stmts k) (around true stmts k) → LevelFits stmts k o
+pub fits_here : (stmts : List CoreStmt) (k : ℕ) (o : Option CoreStmt) → JumpHas o (around false stmts k) (around true stmts k) → LevelFits stmts k o
 fits_here stmts k None jump = tt
 fits_here stmts k (Some (AssignNode pairs)) jump = tt
 fits_here stmts k (Some (GateNode leaf)) jump = tt

@@ -27,3 +27,9 @@ LevelFits stmts k _ = Unit {0}
 
 abbrev pub LevelsFit : List CoreStmt → Type 0
 LevelsFit stmts = (k : ℕ) → k < length stmts → LevelFits stmts k (slice_get stmts k)
+
+-- with so many blocks and loops, and loops alone, around a statement: what it leaves or goes back to is there
+abbrev pub JumpHas : Option CoreStmt → ℕ → ℕ → Type 0
+JumpHas (Some (LeaveNode n)) ends starts = n < ends
+JumpHas (Some (AgainNode n)) ends starts = n < starts
+JumpHas _ ends starts = Unit {0}

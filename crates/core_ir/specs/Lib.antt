@@ -2,6 +2,7 @@ pub mod Core
 pub mod Kinds
 pub mod Laws
 pub mod Levels
+pub mod Once
 pub mod Run
 pub mod Size
 pub mod Tree

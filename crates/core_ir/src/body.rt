@@ -1,8 +1,8 @@
 //! The bodies of statements, and the levels around a statement.
 
-ghost use Rattle.std.specs.Prelude.{◌≡◌, ◌≤◌, ◌<◌, ◌+◌, ◌^◌, ◌++◌, ◌↔◌, ℕ, All, Some, IsTrue, length, slice_get};
-ghost use Rattle.core_ir.specs.Levels.{opens, holds, levels_below, LevelFits, LevelsFit};
-ghost use Rattle.core_ir.specs.WellFormed.{inner_of, bodies_in, times, IsLater, NamesLater};
+ghost use Rattle.std.specs.Prelude.{◌≡◌, ◌≤◌, ◌<◌, ◌+◌, ◌^◌, ◌↔◌, All, Some, IsTrue, length, slice_get};
+ghost use Rattle.core_ir.specs.Levels.{opens, levels_below, LevelFits, LevelsFit};
+ghost use Rattle.core_ir.specs.WellFormed.{inner_of, times, IsLater, NamesLater};
 
 use crate::statement::{Body, CoreStmt};
 
@@ -62,22 +62,8 @@ pub fn bodies_fit(stmts: &[CoreStmt]) -> bool
     true
 }
 
-#[tactic(auto, using(crate::proofs::Bodies::times_append))]
-/// Whether a statement stands once in the given body and in those of the statements.
-pub fn stands_once(body: &[u32], stmts: &[CoreStmt], k: usize) -> bool
-    ensures { IsTrue result ↔ (times k (body.now ++ bodies_in stmts.now) ≡ 1) }
-{
-    let mut count = times(body, k);
-    for stmt in stmts {
-        if count > 1 {
-            return false;
-        }
-        count += times_within(stmt, k);
-    }
-    count == 1
-}
-
-fn opens(stmt: &CoreStmt, loops: bool) -> usize
+/// The levels that a statement opens: of loops alone, or of blocks too.
+pub fn opens(stmt: &CoreStmt, loops: bool) -> usize
     ensures { result ≡ opens loops (Some stmt.now) }
 {
     match stmt {
@@ -117,7 +103,7 @@ fn level_fits(stmts: &[CoreStmt], k: usize) -> bool
     }
 }
 
-/// Whether the levels that are left and gone back to are there.
+/// Whether the levels that are left and gone back to are there. It looks back over the statements at each jump.
 pub fn levels_fit(stmts: &[CoreStmt]) -> bool
     ensures { IsTrue result ↔ LevelsFit stmts.now }
 {

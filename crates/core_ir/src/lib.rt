@@ -8,11 +8,13 @@
 // The layers above use these definitions and the contract of `Core::well_formed`.
 #![tactic(auto)]
 
+mod around;
 mod body;
 mod expression;
 mod kind;
 pub mod laws;
 mod program;
+mod standing;
 mod statement;
 #[cfg(test)]
 mod tests;

@@ -54,8 +54,9 @@ impl Model for Core {
 
 impl Core {
     /// Whether numbers are in range, kinds agree, statements stand in one body each and the levels that
-    /// they name are there: see `IsWellFormed` of `specs/WellFormed.antt`. It accepts any core, and its
-    /// time grows with the square of the number of statements.
+    /// they name are there: see `IsWellFormed` of `specs/WellFormed.antt`. It accepts any core and takes no
+    /// memory. It goes over the statements once for each 65,536 of them; in a core of more, the levels of each
+    /// `Leave` and `Again` are looked for over the statements in front of it.
     pub fn well_formed(&self) -> bool
         ensures { IsTrue result ↔ IsWellFormed self.now }
     {

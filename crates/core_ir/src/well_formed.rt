@@ -1,12 +1,15 @@
 //! Whether a core is well formed.
 
 ghost use Rattle.std.specs.Prelude.{◌≡◌, ◌<◌, ◌↔◌, All, IsTrue, length, slice_get, Some};
-ghost use Rattle.core_ir.specs.WellFormed.{kind_at, ExprsFit, StmtFits, PairFits, ArgFits, ArgsFit, QubitsFit, LeafFits, IntoFits, OutputFits, IsLabelText, StandOnce, BodiesStand, HasLevels};
+ghost use Rattle.core_ir.specs.WellFormed.{kind_at, ExprsFit, StmtFits, PairFits, ArgFits, ArgsFit, QubitsFit, LeafFits, OutputFits, IsLabelText, StandOnce, BodiesStand, HasLevels};
+ghost use Rattle.core_ir.specs.Levels.{LevelsFit};
 ghost use Rattle.core_ir.specs.Tree.{program_of};
 
-use crate::body::{bodies_fit, levels_fit, stands_once};
+use crate::body::{bodies_fit, levels_fit};
 use crate::expression::CellKind;
 use crate::kind::{expr_fits, kind};
+use crate::around::all_levels_fit;
+use crate::standing::stand_once;
 use crate::program::{Core, Output};
 use crate::statement::{CoreStmt, GateArg, LeafCall};
 use gate_table::target;
@@ -168,7 +171,7 @@ pub fn stmts_fit(core: &Core) -> bool
 pub fn bodies_stand(core: &Core) -> bool
     ensures { IsTrue result ↔ BodiesStand core.now.body core.now.stmts }
 {
-    all_named(&core.body, core.stmts.len()) && bodies_fit(&core.stmts) && stand_once(core)
+    all_named(&core.body, core.stmts.len()) && bodies_fit(&core.stmts) && each_stands_once(core)
 }
 
 fn all_named(body: &[u32], count: usize) -> bool
@@ -177,15 +180,14 @@ fn all_named(body: &[u32], count: usize) -> bool
     body.iter().all(|k| (*k as usize) < count)
 }
 
-fn stand_once(core: &Core) -> bool
+/// How many statements are counted at once.
+const COUNTED: usize = 65_536;
+
+fn each_stands_once(core: &Core) -> bool
     ensures { IsTrue result ↔ StandOnce core.now.body core.now.stmts }
 {
-    for k in 0..core.stmts.len() {
-        if !stands_once(&core.body, &core.stmts, k) {
-            return false;
-        }
-    }
-    true
+    let mut seen = [0; COUNTED];
+    stand_once(&core.body, &core.stmts, &mut seen)
 }
 
 /// Whether the levels that are left and gone back to are there.
@@ -193,5 +195,20 @@ pub fn levels_stand(core: &Core) -> bool
     requires { BodiesStand core.now.body core.now.stmts }
     ensures { IsTrue result ↔ HasLevels (program_of core.now) 0 0 }
 {
-    levels_fit(&core.stmts)
+    all_levels(&core.stmts)
+}
+
+/// For more statements the levels are looked for at each jump.
+const LEVELED: usize = 65_536;
+
+fn all_levels(stmts: &[CoreStmt]) -> bool
+    ensures { IsTrue result ↔ LevelsFit stmts.now }
+{
+    let count = stmts.len();
+    if count > LEVELED {
+        return levels_fit(stmts);
+    }
+    let mut ends = [0; LEVELED];
+    let mut starts = [0; LEVELED];
+    all_levels_fit(stmts, &mut ends[..count], &mut starts[..count])
 }
