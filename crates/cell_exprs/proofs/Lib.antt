@@ -1,0 +1,11 @@
+pub mod Numbers
+pub mod Tests
+pub mod Reducing
+pub mod Casting
+pub mod Computing
+pub mod Deciding
+pub mod Bitwise
+pub mod Rows
+pub mod Unary
+pub mod Scaling
+pub mod Taking

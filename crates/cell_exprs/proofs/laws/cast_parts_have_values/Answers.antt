@@ -1,0 +1,8 @@
+use Rattle.cell_exprs.proofs.Numbers.{WordLaws}
+use Rattle.cell_exprs.proofs.Casting.{cast_value}
+use Rattle.cell_exprs.proofs.laws.cast_parts_have_values.Goals as goal
+
+pub returns : goal.returns
+returns c cells =
+    let laws : WordLaws = record { kept = c.numbers_are_kept.ensures; exact = c.words_are_exact.ensures; signed = c.ranges_are_exact.ensures.signed; unsigned = c.ranges_are_exact.ensures.unsigned; reduced = c.words_are_reduced.ensures } in
+    cast_value laws cells

@@ -1,0 +1,3 @@
+pub mod CellValues
+pub mod Parts
+pub mod Laws

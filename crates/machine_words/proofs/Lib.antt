@@ -1,0 +1,6 @@
+pub mod Words
+pub mod Ring
+pub mod Exact
+pub mod Reducing
+pub mod Bits
+pub mod Comparing
