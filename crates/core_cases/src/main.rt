@@ -1,21 +1,21 @@
 // Works single calls of the layers between a core and its blocks: the table of the cases of `lower_expr`, `assigned`,
 // `join_phis`, `header_phis` and `start_phis`. It is no part of the product.
 //
-// Standard input is cases, one a line: a word, and fields with ` | ` between two. Each case is shown with its answer. The
-// first field lists the cells: of each its kind, `n` for a word or `t` for a truth value. An operand is `%` and the number
-// of a register, or a fixed value.
+// Standard input is cases, one a line: a word, and fields with ` | ` between two. Each case is shown with its answer. Cells,
+// expressions and statements are in the notation of `core_text`. An operand is `%` and the number of a register, or a fixed
+// value.
 //
-// - `lower`: cells, each with its operand behind a colon; expressions with `, ` between two, which name cells and one
-//   another by their numbers, from 0; the expressions that are wanted; the next register. The answer is the instructions,
-//   of which those on truth values have a mark `t`, then behind `->` the operands and the next register.
-// - `assigned`: how many cells; statements with `, ` between two; those that the program is; those that are asked about. The
-//   answer is the cells. `set` and the cells are an `Assign`, and a `/` stands between the bodies of an `if`.
+// - `lower`: cells, each with its operand behind a colon; expressions; the expressions that are wanted; the next register.
+//   The answer is the instructions, of which those on truth values have a mark `t`, then behind `->` the operands and the
+//   next register.
+// - `assigned`: how many cells; statements; those that the program is; those that are asked about. The answer is the cells.
+//   There is one expression, a truth value, and one qubit.
 // - `join`: cells; the ways with `, ` between two, each a block and its operands; the block and the next register. The
 //   answer is the phis, then behind `->` the block, its operands and the next register.
 // - `open`: the same with one way, and with a field for the listed cells behind it.
 // - `start`: the same with all ways to a loop's start, without the block; the answer is the phis.
 //
-// It stands on `expr_lower` and `phi_place`.
+// It stands on `expr_lower` and `phi_place`, and on `core_text` for the notation.
 #![tactic(auto)]
 
 mod meets;
@@ -24,11 +24,12 @@ mod show;
 
 use anyhow::{Context, Result, bail};
 use core_ir::{CellKind, Core, CoreExpr};
+use core_text::{exprs, kinds, number, numbers, statements};
 use expr_lower::laws::few_are_reached;
 use expr_lower::lower_expr;
 use meets::{are_within, ascend, can_join, has_room};
 use phi_place::{assigned, header_phis, join_phis, start_phis};
-use read::{exprs, kinds, number, numbers, placed_cells, statements, way, ways};
+use read::{placed_cells, way, ways};
 use show::{shown_code, shown_numbers, shown_operands, shown_phis, shown_state};
 use std::alloc::Global;
 use std::io;
