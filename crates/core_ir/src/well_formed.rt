@@ -5,12 +5,12 @@ ghost use Rattle.core_ir.specs.WellFormed.{kind_at, ExprsFit, StmtFits, PairFits
 ghost use Rattle.core_ir.specs.Levels.{LevelsFit};
 ghost use Rattle.core_ir.specs.Tree.{program_of};
 
+use crate::around::all_levels_fit;
 use crate::body::{bodies_fit, levels_fit};
 use crate::expression::CellKind;
 use crate::kind::{expr_fits, kind};
-use crate::around::all_levels_fit;
-use crate::standing::stand_once;
 use crate::program::{Core, Output};
+use crate::standing::stand_once;
 use crate::statement::{CoreStmt, GateArg, LeafCall};
 use gate_table::target;
 use qq_base::{Label, QubitId};
