@@ -29,8 +29,7 @@ struct Prices {
 }
 
 /// Whether a core fits what is lowered, as far as that is seen by a bound of its weight: as if the cells that it assigns were
-/// open everywhere, and each statement reached all expressions that compute something. The time grows with the square of
-/// the number of statements.
+/// open everywhere, and each statement reached all expressions that compute something.
 #[tactic(auto, using(crate::proofs::Bounds::fits_from))]
 pub fn fits(alloc: Global, core: &Core) -> Result<bool, NoMemory>
     ensures { IfOk result (λ fit. IsTrue fit → Fits core.now) }
