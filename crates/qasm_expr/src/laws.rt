@@ -1,12 +1,18 @@
 //! The laws of expressions. They have no code: each contract is a law.
 
-ghost use Rattle.std.specs.Prelude.{◌≡◌, ℕ, Option, None, List};
+ghost use Rattle.std.specs.Prelude.{◌≡◌, ℕ, ◌<◌, ◌≤◌, ◌==◌, ◌||◌, true, Bool, Option, Some, None, Ok, List, length, map, filter};
+ghost use Rattle.qasm_lexer.specs.Tokens.{Tokens};
 ghost use Rattle.qasm_lexer.specs.declared.token.Token.{Token};
 ghost use Rattle.qasm_ast.specs.Tree.{Tree};
 ghost use Rattle.grammar_parts.specs.Exact.{Exactly};
+ghost use Rattle.grammar_parts.specs.Kinds.{is_some};
+ghost use Rattle.qasm_expr.specs.Seen.{Cut};
+ghost use Rattle.qasm_expr.specs.TokenKinds.{bits_of};
 ghost use Rattle.qasm_expr.specs.Grammar.{expr};
 ghost use Rattle.qasm_expr.specs.Reader.{read_expr};
 ghost use Rattle.qasm_expr.specs.Rows.{BitString, JoinsLeft, ProductFirst, SignOfPower, PowerOfSign, PowerJoinsRight, ThirdOperator, ThirdLevel, ThirdBracket, PlaceOfGroup, ChainOfGroup, EmptyCall, TrailingComma, CommaAlone, TwoCommas, ThreeParts, NoStep, NoStop, SetOfMembers, EmptySet, EmptyIndex, CastWithWidth, BoolHasNoWidth, BehindACall, AtTheEnd, BeginsNothing};
+
+use qasm_lexer::MOST_BYTES;
 
 /// The reader of expressions takes the longest list of tokens that begins an expression. Where that list
 /// is an expression, and no limit alone forbids the token behind it, it answers the tree and the rest;
@@ -21,6 +27,25 @@ pub fn expressions_are_read_exactly()
 pub fn expressions_have_one_tree()
     ensures { (text : List ℕ) (limit : Option ℕ) (room : ℕ) (tokens : List Token) (a b : Tree) →
         (expr text limit room).derives tokens a → (expr text limit room).derives tokens b → a ≡ b }
+{}
+
+/// An expression takes a token at least.
+pub fn expressions_take_a_token()
+    ensures { (text : List ℕ) (limit : Option ℕ) (room : ℕ) (tokens : List Token) (a : Tree) (rest : List Token) →
+        read_expr text limit room tokens ≡ Ok (a, rest) → length rest < length tokens }
+{}
+
+/// The tokens of a text that is not too long are few, lie within it, and are of names and bit strings that
+/// are not large.
+pub fn tokens_are_cut()
+    ensures { (text : List ℕ) (tokens : List Token) →
+        length text ≤ MOST_BYTES → Tokens text (Ok tokens) → Cut text tokens }
+{}
+
+/// The bits of a bit string are its digits.
+pub fn bits_are_digits()
+    ensures { (spelling : List ℕ) → is_some (bits_of spelling) ≡ true →
+        bits_of spelling ≡ Some (map (λ c. c == 49) (filter (λ c. (c == 48) || (c == 49)) spelling)) }
 {}
 
 /// Worked rows: what is read of some short lists of tokens, and where reading stops.

@@ -19,4 +19,7 @@ mod stop;
 mod tests;
 
 pub use expression::{LEVELS, parse_expr};
-pub use laws::{expressions_are_read_exactly, expressions_have_one_tree, worked_rows};
+pub use laws::{
+    bits_are_digits, expressions_are_read_exactly, expressions_have_one_tree,
+    expressions_take_a_token, tokens_are_cut, worked_rows,
+};

@@ -15,6 +15,7 @@ ghost use Rattle.qasm_parser.specs.Shows.{IsTree, IsCounted, IsMaybe, IsTrees, I
 use crate::parser::Parser;
 use crate::stop::Stop;
 use qasm_ast::{BinaryOp, ExprId, ExprKind, IndexRef, Items, OperandName, OperandRef, TypeRef};
+use qasm_expr::expressions_take_a_token;
 use qasm_lexer::Mark;
 use qq_base::Span;
 
@@ -284,6 +285,7 @@ impl<'a> Parser<'a> {
     pub fn list(&mut self, room: u32, filled: bool) -> Result<Vec<ExprId>, Stop>
         ensures { Reads (λ s v. IsTrees s v.items) (read_list self.old.text filled (read_expr self.old.text (Some 64) room)) self.old result self.new }
     {
+        expressions_take_a_token();
         let mut found = Vec::new(self.alloc());
         let mut first = filled;
         'items: while self.may_take(first) {

@@ -8,7 +8,7 @@ use crate::parser::Parser;
 use crate::refusal::fault_of;
 use indexmap::IndexSet;
 use qasm_ast::{Expr, ExprId, Word};
-use qasm_expr::expressions_are_read_exactly;
+use qasm_expr::{expressions_are_read_exactly, tokens_are_cut};
 use qasm_lexer::{MOST_BYTES, Token};
 use qq_base::Fault;
 use std::alloc::Global;
@@ -46,6 +46,7 @@ pub fn parse_expr(
     ensures added { IfOk result (λ r. Added (length names.old.keys) (length names.new.keys) (length nodes.old.items) (length nodes.new.items) from r.1) }
 {
     expressions_are_read_exactly();
+    tokens_are_cut();
     let old_names = mem::replace(names, IndexSet::new(alloc));
     let old_nodes = mem::replace(nodes, Vec::new(alloc));
     let mut parser = Parser::resume(alloc, text.as_bytes(), tokens, from, old_names, old_nodes);

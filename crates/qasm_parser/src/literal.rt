@@ -8,6 +8,7 @@ ghost use Rattle.qasm_parser.specs.declared.stop.Stop.TheVariants.{Memory};
 
 use crate::stop::Stop;
 use qasm_ast::{BitText, ExprKind};
+use qasm_expr::bits_are_digits;
 use qasm_lexer::{Keyword, TokenKind};
 use std::alloc::{AllocError, Global};
 
@@ -55,6 +56,7 @@ pub fn bits(alloc: Global, spelling: &[u8]) -> Result<Option<BitText>, Stop>
     ensures value { IfOk result (λ found. found ≡ bits_of spelling.now) }
     ensures memory { IfErr result (λ e. e ≡ Memory) }
 {
+    bits_are_digits();
     if is_bits(spelling) {
         return match digits(alloc, spelling) {
             Ok(items) => Ok(Some(BitText { items })),

@@ -3,23 +3,22 @@ use Rattle.qq_base.specs.declared.refusal.Fault.{Fault}
 use Rattle.qasm_expr.specs.Answer.{Tells}
 use Rattle.qasm_expr.specs.Reader.{read_expr}
 use Rattle.qasm_expr.specs.Seen.{Cut}
-use Rattle.qasm_expr.proofs.Cuts.{cut_of}
 use Rattle.qasm_parser.specs.State.{resumed}
 use Rattle.qasm_parser.proofs.Telling.{tells, grown}
 use Rattle.qasm_parser.proofs.expression.parse_expr.Goals as goal
 
 pub resume-parser-requires-clause-cut : goal.resume-parser-requires-clause-cut
-resume-parser-requires-clause-cut c = subst (λ text. Cut text c.args.tokens.now) (sym c.as_bytes.ensures.value) (cut_of c.args.text.now c.args.tokens.now c.requires.size c.requires.lexed)
+resume-parser-requires-clause-cut c = subst (λ text. Cut text c.args.tokens.now) (sym c.as_bytes.ensures.value) (c.tokens_are_cut.ensures c.args.text.now c.args.tokens.now c.requires.size c.requires.lexed)
 
 pub resume-parser-requires-clause-names : goal.resume-parser-requires-clause-names
 resume-parser-requires-clause-names c =
-    let cut = cut_of c.args.text.now c.args.tokens.now c.requires.size c.requires.lexed in
+    let cut = c.tokens_are_cut.ensures c.args.text.now c.args.tokens.now c.requires.size c.requires.lexed in
     let same : c.replace-old_names.result.keys ≡ c.args.names.now.keys = rw c.replace-old_names.ensures.value refl in
     omega (arith, cut.few, ap length same)
 
 pub resume-parser-requires-clause-exprs : goal.resume-parser-requires-clause-exprs
 resume-parser-requires-clause-exprs c =
-    let cut = cut_of c.args.text.now c.args.tokens.now c.requires.size c.requires.lexed in
+    let cut = c.tokens_are_cut.ensures c.args.text.now c.args.tokens.now c.requires.size c.requires.lexed in
     let same : c.replace-old_nodes.result.items ≡ c.args.nodes.now.items = rw c.replace-old_nodes.ensures.value refl in
     omega (arith, cut.few, ap length same)
 

@@ -9,7 +9,6 @@ use Rattle.qasm_expr.specs.TokenKinds.{mark_kind}
 use Rattle.qasm_expr.specs.Grammar.{Counted, scalar, literal_of}
 use Rattle.qasm_expr.specs.Reader.{begins, expr_kinds, read_between, read_cast, read_type, read_list, read_behind_colon, read_behind_start, read_set, read_content, read_behind_name, read_prim, read_level, read_binary, read_unary, read_expr}
 use Rattle.qasm_expr.specs.Seen.{tighter, rows_at}
-use Rattle.qasm_expr.proofs.Levels.{expr_moves}
 use Rattle.qasm_parser.specs.State.{After, tree}
 use Rattle.qasm_parser.specs.Shows.{Each, IsTree, IsCounted, IsBracket}
 use Rattle.qasm_parser.proofs.Growing.{after_same, after_on, past, fewer, spend, has_room}
@@ -465,7 +464,7 @@ list-returns-then-not-eat t c =
     let g = c.items.invariant.listing in
     let r = c.in_ok-item.ensures in
     let read : read_expr c.args.self.now.text (Some 64) c.args.room c.items.self.left ≡ Ok (r.value, c.expr.new.self.left) = rw (sym at') r.read in
-    let moved = expr_moves c.args.self.now.text (Some 64) c.args.room _ _ _ read in
+    let moved = c.expressions_take_a_token.ensures c.args.self.now.text (Some 64) c.args.room _ _ _ read in
     let push = pushed c.push.result c.items.found.items c.push.new.self.items (c.items.found.items ++ c.in_ok-item.item ∷ []) c.push.ensures.items (sym c.is_err.ensures.value ∙ c.if-is_err.false) in
     let size : length c.push.new.self.items ≡ length c.items.found.items + 1 = ap length push ∙ length-append c.items.found.items (c.in_ok-item.item ∷ []) in
     let seen = each_more (IsTree c.items.self) (IsTree c.expr.new.self) (tree_later r.after) c.items.found.items c.push.new.self.items g.acc c.in_ok-item.item r.value push g.sees r.shown in
@@ -488,7 +487,7 @@ list-items-preserved t c =
     let g = c.items.invariant.listing in
     let r = c.in_ok-item.ensures in
     let read : read_expr c.args.self.now.text (Some 64) c.args.room c.items.self.left ≡ Ok (r.value, c.expr.new.self.left) = rw (sym at') r.read in
-    let moved = expr_moves c.args.self.now.text (Some 64) c.args.room _ _ _ read in
+    let moved = c.expressions_take_a_token.ensures c.args.self.now.text (Some 64) c.args.room _ _ _ read in
     let push = pushed c.push.result c.items.found.items c.push.new.self.items (c.items.found.items ++ c.in_ok-item.item ∷ []) c.push.ensures.items (sym c.is_err.ensures.value ∙ c.if-is_err.false) in
     let size : length c.push.new.self.items ≡ length c.items.found.items + 1 = ap length push ∙ length-append c.items.found.items (c.in_ok-item.item ∷ []) in
     let seen = each_more (IsTree c.items.self) (IsTree c.expr.new.self) (tree_later r.after) c.items.found.items c.push.new.self.items g.acc c.in_ok-item.item r.value push g.sees r.shown in
