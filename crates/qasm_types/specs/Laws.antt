@@ -1,10 +1,19 @@
--- Casts and operators give values of the types that their rows name.
+-- The plans of operators are rows of their table, and casts and operators give values of the types that their rows name.
 use Rattle.std.specs.Prelude.{◌≡◌, ℤ, Some}
 use Rattle.qasm_ast.specs.declared.expr.BinaryOp.{BinaryOp}
 use Rattle.qasm_ast.specs.declared.expr.UnaryOp.{UnaryOp}
 use Rattle.qasm_types.specs.declared.ty.Ty.{Ty}
-use Rattle.qasm_types.specs.Operators.{group_of, HasRow, HasUnaryRow}
+use Rattle.qasm_types.specs.Operators.{Group, group_of, HasRow, HasUnaryRow}
+use Rattle.qasm_types.specs.Plans.{operator_plan, unary_plan}
 use Rattle.qasm_types.specs.Values.{Value, IsValueOf, cast, taken, apply, apply_unary, result_of}
+
+-- a plan of an operator is a row of the table
+abbrev pub PlansAreRows : Type 0
+PlansAreRows = (g : Group) (a b : Ty) (u v : ℤ) (p : Ty × Ty × Ty) → operator_plan g a u b v ≡ Some p → HasRow g a u b v p.0 p.1 p.2
+
+-- and so is that of a unary operator
+abbrev pub UnaryPlansAreRows : Type 0
+UnaryPlansAreRows = (o : UnaryOp) (a : Ty) (v : ℤ) (m : Ty) → unary_plan o a v ≡ Some m → HasUnaryRow o a v m
 
 -- a cast of a value of one type gives a value of the other
 abbrev pub CastsGiveValues : Type 0

@@ -1,5 +1,5 @@
 // Laws of the two tables, and what the definitions of values give, worked by hand.
-ghost use Rattle.qasm_types.specs.Laws.{CastsGiveValues, OperandsAreTakenAsValues, OperatorsGiveValues, ResultsAreValues, UnaryOperatorsGiveValues};
+ghost use Rattle.qasm_types.specs.Laws.{CastsGiveValues, OperandsAreTakenAsValues, OperatorsGiveValues, PlansAreRows, ResultsAreValues, UnaryOperatorsGiveValues, UnaryPlansAreRows};
 ghost use Rattle.qasm_types.specs.ValueRows.{WorkedCasts, WorkedOperators};
 
 use angle_arith::{fractions_have_lowest_terms, negatives_keep_lowest_terms};
@@ -8,6 +8,12 @@ use angle_arith::{fractions_have_lowest_terms, negatives_keep_lowest_terms};
 pub fn worked_values()
     ensures casts { WorkedCasts }
     ensures operators { WorkedOperators }
+{}
+
+/// What is planned for the types of operands is a row of the table of operators.
+pub fn plans_are_rows()
+    ensures operators { PlansAreRows }
+    ensures unary_operators { UnaryPlansAreRows }
 {}
 
 /// A cast gives a value of its type, and so does what an operator takes.

@@ -10,7 +10,8 @@
 // - of `operator_type` and `unary_type`, that an answer is a row of the table of operators and each row is the answer
 //   (`row`), so that None comes exactly where there is no row (`none`): `HasRow` and `HasUnaryRow` in
 //   `specs/Operators.antt`, with the word type at which operands meet in `specs/Words.antt`;
-// - of these three also that they are the functions of `specs/Plans.antt` (`test`, `plan`), for a layer that computes;
+// - of these three also that they are the functions of `specs/Plans.antt` (`test`, `plan`), for a layer that computes, whose
+//   plans are rows by the law `plans_are_rows`;
 // - of `cells`, the number of a variable's cells;
 // - that the types of an `Operand` and of an `OpPlan` are types of the language (`IsType` in `specs/Types.antt`): a word's
 //   width is from 1 to 64, an angle's from 1 to 32.
@@ -35,7 +36,8 @@ mod word;
 
 pub use cast::cast_of;
 pub use laws::{
-    casts_give_values, operators_give_values, unary_operators_give_values, worked_values,
+    casts_give_values, operators_give_values, plans_are_rows, unary_operators_give_values,
+    worked_values,
 };
 pub use operand::{OpPlan, Operand};
 pub use operator::{operator_type, unary_type};
