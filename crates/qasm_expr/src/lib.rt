@@ -15,8 +15,6 @@ pub mod parts;
 mod refusal;
 mod sees;
 mod stop;
-#[cfg(test)]
-mod tests;
 
 pub use expression::{LEVELS, parse_expr};
 pub use laws::{

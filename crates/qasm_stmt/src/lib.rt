@@ -22,8 +22,6 @@ mod parameters;
 mod program;
 mod refusal;
 mod statements;
-#[cfg(test)]
-mod tests;
 mod turns;
 mod whole;
 mod words;

@@ -16,8 +16,6 @@ mod operand;
 mod peek;
 mod reader;
 mod stop;
-#[cfg(test)]
-mod tests;
 mod words;
 
 pub use reader::read_module;
