@@ -2,6 +2,7 @@ pub mod Bodies
 pub mod Choices
 pub mod Fitted
 pub mod Holding
+pub mod Keeping
 pub mod Labels
 pub mod Later
 pub mod Levels
@@ -11,6 +12,7 @@ pub mod Placing
 pub mod Ranges
 pub mod Rising
 pub mod Settling
+pub mod Shortening
 pub mod Skipping
 pub mod Storing
 pub mod Zeros

@@ -5,6 +5,7 @@ ghost use Rattle.std.specs.List.{flat_map};
 ghost use Rattle.qq_base.specs.declared.run.QubitId.{QubitId as AQubit};
 ghost use Rattle.gate_table.specs.Table.{row_of};
 ghost use Rattle.core_ir.specs.Size.{leaf_exprs, pair_exprs, running_in};
+ghost use Rattle.block_lower.specs.Kept.{pair_cells};
 ghost use Rattle.block_graph.specs.Lowering.{unit_args, qubit_args, gate_call, reset_call, measure_call, read_call, initialize_call, record_call};
 
 use core_ir::{GateArg, LeafCall, Output};
@@ -154,6 +155,17 @@ pub fn pair_exprs(alloc: Global, pairs: &[(u32, u32)]) -> Result<Vec<u32>, NoMem
         exprs.push(pair.1)?;
     }
     Ok(exprs)
+}
+
+/// The cells of the pairs.
+pub fn pair_cells(alloc: Global, pairs: &[(u32, u32)]) -> Result<Vec<u32>, NoMemory>
+    ensures { IfOk result (λ cells. cells.items ≡ pair_cells pairs.now) }
+{
+    let mut cells = Vec::new(alloc);
+    for pair in pairs {
+        cells.push(pair.0)?;
+    }
+    Ok(cells)
 }
 
 /// The expressions of a gate's arguments.

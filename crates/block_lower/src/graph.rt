@@ -11,14 +11,16 @@ ghost use Rattle.block_graph.specs.Lowering.{when_open, assign_work, gate_work, 
 ghost use Rattle.block_lower.specs.Parts.{IsSmall, AreLater, joined, looped};
 
 use crate::calls::{
-    gate_call, initialize_call, leaf_exprs, measure_call, pair_exprs, read_call, record_call,
-    reset_call,
+    gate_call, initialize_call, leaf_exprs, measure_call, pair_cells, pair_exprs, read_call,
+    record_call, reset_call,
 };
 use crate::exits::start_cells;
+use crate::joins::{enter_loop, join_ways, start_ways};
+use crate::kept::{Kept, Way};
 use crate::settle::{declarations, settle_all};
 use crate::work::{Draft, Level, Open, add_way, label_at, push_level};
 use core_ir::{CellKind, Core, LeafCall};
-use phi_place::{CellState, Operands, header_phis, join_phis, start_phis};
+use phi_place::Operands;
 use qir_module::{Last, Module, Operand, Phi, Profile, Sequence};
 use qq_base::{Label, NoMemory, QubitId};
 use std::alloc::Global;
@@ -68,7 +70,7 @@ pub struct LoopStart {
 pub struct Choice {
     second: u32,
     pub join: u32,
-    values: Operands,
+    values: Kept,
 }
 
 impl Work {
@@ -93,7 +95,7 @@ impl Work {
         })
     }
 
-    #[tactic(auto, using(crate::proofs::Ranges::pairs_within))]
+    #[tactic(auto, using(crate::proofs::Ranges::pairs_within, crate::proofs::Storing::stored_is))]
     #[inline(never)]
     pub fn assign(&mut self, core: &Core, pairs: &[(u32, u32)]) -> Result<(), NoMemory>
         requires fits { Fits core.now }
@@ -106,7 +108,8 @@ impl Work {
             Some(mut open) => {
                 let exprs = pair_exprs(self.alloc, pairs)?;
                 let operands = open.compute(self.alloc, core, &exprs, &mut self.next)?;
-                open.store(pairs, &operands);
+                let cells = pair_cells(self.alloc, pairs)?;
+                open.store(&cells, &operands);
                 self.now = Some(open);
                 Ok(())
             }
@@ -180,7 +183,8 @@ impl Work {
             Some(open) => {
                 let block = self.done.len() as u32;
                 let (draft, values) = open.close(Last::Jump(label_at(&self.ends, k)));
-                add_way(&mut self.ends, k, CellState { block, values })?;
+                let way = Way::of(self.alloc, block, &values)?;
+                add_way(&mut self.ends, k, way)?;
                 self.done.push(draft)?;
                 Ok(())
             }
@@ -198,7 +202,8 @@ impl Work {
             Some(open) => {
                 let block = self.done.len() as u32;
                 let (draft, values) = open.close(Last::Jump(label_at(&self.starts, k)));
-                add_way(&mut self.starts, k, CellState { block, values })?;
+                let way = Way::of(self.alloc, block, &values)?;
+                add_way(&mut self.starts, k, way)?;
                 self.done.push(draft)?;
                 Ok(())
             }
@@ -225,23 +230,17 @@ impl Work {
     }
 
     /// The join of these ways, under a label.
-    fn join(&mut self, kinds: &[CellKind], label: u32, ways: &[CellState]) -> Result<(), NoMemory>
+    fn join(&mut self, kinds: &[CellKind], label: u32, ways: &[Way]) -> Result<(), NoMemory>
         requires some { 0 < length ways.now }
         requires kinds { length kinds.now ≤ 2 ^ 31 }
         requires small { IsSmall self.old }
         ensures { OnOk result (self.new ≡ joined kinds.now label ways.now self.old) }
     {
-        match ways {
-            [first, ..] => {
-                let _cells = first.values.len();
-                let block = self.done.len() as u32;
-                let (phis, state) = join_phis(self.alloc, ways, kinds, block, &mut self.next)?;
-                settle(&mut self.targets, label, block);
-                self.now = Some(Open::new(self.alloc, phis, state.values));
-                Ok(())
-            }
-            [] => unreachable!(),
-        }
+        let block = self.done.len() as u32;
+        let (phis, values) = join_ways(self.alloc, ways, kinds, &mut self.next)?;
+        settle(&mut self.targets, label, block);
+        self.now = Some(Open::new(self.alloc, phis, values));
+        Ok(())
     }
 
     /// A block or loop whose end is open.
@@ -318,19 +317,11 @@ impl Work {
         let block = self.done.len() as u32;
         let label = self.targets.len() as u32;
         let (draft, values) = here.close(Last::Jump(label));
-        let _count = values.len();
-        let entry = CellState { block, values };
-        let (phis, state) = header_phis(
-            self.alloc,
-            &entry,
-            cells,
-            kinds,
-            block + 1,
-            &mut self.next,
-        )?;
+        let entry = Way::of(self.alloc, block, &values)?;
+        let (phis, values) = enter_loop(self.alloc, &entry, cells, kinds, &mut self.next)?;
         self.push_start(draft, Sequence { items: phis })?;
         self.push_loop(label, entry)?;
-        self.now = Some(Open::late(self.alloc, late, state.values));
+        self.now = Some(Open::late(self.alloc, late, values));
         Ok(())
     }
 
@@ -353,7 +344,7 @@ impl Work {
     }
 
     /// The levels of a loop: its end, and its start with the way from in front.
-    fn push_loop(&mut self, label: u32, entry: CellState) -> Result<(), NoMemory>
+    fn push_loop(&mut self, label: u32, entry: Way) -> Result<(), NoMemory>
         requires { (label < 2 ^ 28) × (entry.block < 2 ^ 28) }
         ensures { OnOk result (self.new ≡ record self.old {
           ends = record { label = label + 1; block = 0; ways = [] } ∷ self.old.ends;
@@ -384,7 +375,7 @@ impl Work {
             return Ok(());
         }
         let level = self.starts.remove(0);
-        let phis = start_phis(self.alloc, &level.ways, &start.cells, kinds, start.next)?;
+        let phis = start_ways(self.alloc, &level.ways, &start.cells, kinds, start.next)?;
         settle_phis(&mut self.lates, start.late, Sequence { items: phis });
         Ok(())
     }
@@ -410,7 +401,7 @@ impl Work {
     {
         let mut open = here;
         let label = self.targets.len() as u32;
-        let values = open.values().copy(self.alloc)?;
+        let values = Kept::of(self.alloc, open.values())?;
         let operands = open.compute(self.alloc, core, &[test], &mut self.next)?;
         let last = branch_last(holds, first_operand(&operands), label);
         let (draft, other) = open.close(last);
@@ -437,7 +428,7 @@ impl Work {
     }
 
     /// The end of a body of a choice: its way to the join.
-    fn fall(&mut self, label: u32, ways: &mut Vec<CellState>) -> Result<(), NoMemory>
+    fn fall(&mut self, label: u32, ways: &mut Vec<Way>) -> Result<(), NoMemory>
         requires { IsSmall self.old }
         ensures work { OnOk result (self.new ≡ fall_work label self.old) }
         ensures ways { OnOk result (ways.new.items ≡ ways.old.items ++ fall_ways self.old self.old.now) }
@@ -448,7 +439,7 @@ impl Work {
                 let block = self.done.len() as u32;
                 let (draft, values) = open.close(Last::Jump(label));
                 self.done.push(draft)?;
-                ways.push(CellState { block, values })?;
+                ways.push(Way::of(self.alloc, block, &values)?)?;
                 Ok(())
             }
         }
@@ -464,7 +455,7 @@ impl Work {
 
     /// From the first body of a choice to the second: the way where the first ends, if it does.
     #[inline(never)]
-    pub fn turn(&mut self, choice: Choice) -> Result<Vec<CellState>, NoMemory>
+    pub fn turn(&mut self, choice: Choice) -> Result<Vec<Way>, NoMemory>
         requires small { IsSmall self.old }
         requires behind { IsSmall (fall_work choice.join self.old) }
         ensures work { OnOk result (self.new ≡ open_second choice.second choice.values (fall_work choice.join self.old)) }
@@ -472,7 +463,8 @@ impl Work {
     {
         let mut ways = Vec::new(self.alloc);
         self.fall(choice.join, &mut ways)?;
-        self.open_second(choice.second, choice.values);
+        let values = choice.values.row(self.alloc)?;
+        self.open_second(choice.second, values);
         Ok(ways)
     }
 
@@ -483,7 +475,7 @@ impl Work {
         &mut self,
         kinds: &[CellKind],
         label: u32,
-        ways: Vec<CellState>,
+        ways: Vec<Way>,
     ) -> Result<(), NoMemory>
         requires kinds { length kinds.now ≤ 2 ^ 31 }
         requires small { IsSmall (join_bodies kinds.now label ways.items self.old) }

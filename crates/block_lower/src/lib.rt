@@ -12,6 +12,8 @@ mod calls;
 mod exits;
 mod graph;
 mod held;
+mod joins;
+mod kept;
 mod mark;
 mod marks;
 mod settle;

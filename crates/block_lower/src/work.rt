@@ -4,12 +4,14 @@ ghost use Rattle.std.specs.Prelude.{◌≡◌, ◌<◌, ◌^◌, ◌+◌, ◌++�
 ghost use Rattle.core_ir.specs.WellFormed.{Fits};
 ghost use Rattle.expr_lower.specs.Coded.{coded};
 ghost use Rattle.block_graph.specs.Work.{Ready, Late};
-ghost use Rattle.block_graph.specs.Lowering.{stored, closed, add_way, label_at};
+ghost use Rattle.block_graph.specs.Lowering.{closed, add_way, label_at};
+ghost use Rattle.block_lower.specs.Kept.{placed};
 
+use crate::kept::{Way, place};
 use core_ir::Core;
 use expr_lower::laws::few_are_reached;
 use expr_lower::lower_expr;
-use phi_place::{CellState, Operands};
+use phi_place::Operands;
 use qir_module::{Instr, Last, Operand, Phi, Sequence};
 use qq_base::NoMemory;
 use std::alloc::Global;
@@ -123,11 +125,11 @@ impl Open {
         self.values.set(c as usize, operand);
     }
 
-    /// The cells of the pairs are at these operands.
-    pub fn store(&mut self, pairs: &[(u32, u32)], operands: &[Operand])
-        ensures { self.new ≡ record self.old { values = stored pairs.now operands.now self.old.values } }
+    /// The cells are at these operands.
+    pub fn store(&mut self, cells: &[u32], operands: &[Operand])
+        ensures { self.new ≡ record self.old { values = placed cells.now operands.now self.old.values } }
     {
-        store(&mut self.values, pairs, operands);
+        place(&mut self.values, cells, operands);
     }
 
     /// The open block ends.
@@ -145,24 +147,13 @@ impl Open {
     }
 }
 
-#[tactic(auto, using(crate::proofs::Storing::store_one, crate::proofs::Storing::store_none))]
-fn store(values: &mut Operands, pairs: &[(u32, u32)], operands: &[Operand])
-    ensures { values.new ≡ stored pairs.now operands.now values.old }
-{
-    for place in 0..pairs.len() {
-        if place < operands.len() {
-            values.set(pairs[place].0 as usize, operands[place]);
-        }
-    }
-}
-
 /// The end of a block or loop that is open, or the start of a loop that is: its label, its block where that is known, and
 /// the ways that lead to it so far.
 #[derive(Drop)]
 pub struct Level {
     pub label: u32,
     pub block: u32,
-    pub ways: Vec<CellState>,
+    pub ways: Vec<Way>,
 }
 
 impl Model for Level {
@@ -181,7 +172,7 @@ impl Level {
     }
 
     /// One more way.
-    pub fn add(&mut self, way: CellState) -> Result<(), NoMemory>
+    pub fn add(&mut self, way: Way) -> Result<(), NoMemory>
         ensures { OnOk result (self.new ≡ record self.old { ways = self.old.ways ++ way ∷ [] }) }
     {
         self.ways.push(way)?;
@@ -204,7 +195,7 @@ pub fn label_at(levels: &[Level], k: u32) -> u32
 
 /// One more way to the k-th level, counted from the inside, if it is there.
 #[tactic(auto, using(crate::proofs::Levels::add_way_set, crate::proofs::Levels::add_way_past))]
-pub fn add_way(levels: &mut Vec<Level>, k: u32, way: CellState) -> Result<(), NoMemory>
+pub fn add_way(levels: &mut Vec<Level>, k: u32, way: Way) -> Result<(), NoMemory>
     ensures { OnOk result (levels.new.items ≡ add_way levels.old.items k way) }
 {
     let place = k as usize;
