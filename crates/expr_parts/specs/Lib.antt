@@ -1,0 +1,4 @@
+pub mod Cells
+pub mod Variables
+pub mod TreeParts
+pub mod TreeLaw
