@@ -393,9 +393,12 @@ module _ (laws : Laws) (means : List ℕ → Meaning) (variable : List ℕ → O
       (x, (λ i. taken (same i).type (same i).value l) ∙ found, laws.taken_values c.type l c.value x v found, ap (λ o. map (λ (e : Expr). value_of e cells) (fixed_parts (or_zero l o))) found ∙ laws.fixed cells x)
   operand a (Computed type) left l runs e tl has =
       let there = casts_in_cells type l runs.in_cells tl (has runs.in_cells) in
-      let (x, ex) = cast_some type l (worth a).value runs.in_cells there runs.valued in
-      (x, (λ i. taken (runs.typed i) (worth a).value l) ∙ taken_is_cast type l (worth a).value runs.in_cells ∙ ex, laws.cast_values type l (worth a).value x runs.valued ex,
-      laws.casts cells type l (pos 0) (worth a).value x (parts a) runs.in_cells there (has runs.in_cells) runs.valued runs.have ex)
+      let (x, ex) = cast_some type l (worth a).value runs.in_cells there runs.valued in (
+        x,
+        (λ i. taken (runs.typed i) (worth a).value l) ∙ taken_is_cast type l (worth a).value runs.in_cells ∙ ex,
+        laws.cast_values type l (worth a).value x runs.valued ex,
+        laws.casts cells type l (pos 0) (worth a).value x (parts a) runs.in_cells there (has runs.in_cells) runs.valued runs.have ex,
+      )
 
   type_known : (a : Tree) (ta : Typed) → Knows a ta → (worth a).type ≡ type_of ta
   type_known a (Exactly c) (same, ty, v, k) = ap (λ (x : TypedValue). x.type) same
