@@ -1,9 +1,8 @@
 -- The number of a name tells what stood when it was declared.
-use Rattle.std.proofs.Common.{◌≡◌, ℕ, suc, ◌+◌, ◌<◌, ◌≤◌, Bool, true, false, List, Option, Some, None, nat_eq, refl, sym, ap, ◌∙◌, cond, arith, rules}
-use Rattle.std.proofs.lemmas.Bool.{eqb-true}
+use Rattle.std.proofs.Common.{◌≡◌, ℕ, suc, ◌<◌, ◌≤◌, Bool, true, false, List, Some, nat_eq, refl, ◌∙◌, cond, arith}
 use Rattle.scope_env.specs.OpenScopes.{OpenScopes, Outside, Opened, Sealed, Named, is_same, find, since}
-use Rattle.const_eval.specs.Things.{Thing, Known, Gate, DefinedGate}
-use Rattle.source_calls.specs.Calls.{names_in, names_before, number_of, since_number, newest_definition, definition_of}
+use Rattle.const_eval.specs.Things.{Known, Gate, DefinedGate}
+use Rattle.source_calls.specs.Calls.{names_in, names_before, since_number, newest_definition, definition_of}
 
 -- a number is itself, and no greater one
 itself : (n : ℕ) → nat_eq n n ≡ true

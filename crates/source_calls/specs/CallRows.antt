@@ -6,13 +6,13 @@ use Rattle.qq_base.specs.declared.rule.Rule.TheVariants.{Unknown, WrongKind, Rec
 use Rattle.qq_base.specs.declared.run.GateId.{GateId}
 use Rattle.gate_table.specs.Table.{gate_named}
 use Rattle.angle_arith.specs.Fraction.{fraction_of}
-use Rattle.qasm_ast.specs.Tree.{Called, word, Tree, named, Trees, no_tree, a_tree, Brackets, no_bracket, Name, Operand, Change, inverse, Statement, gate_call, Statements, no_statement, a_statement}
+use Rattle.qasm_ast.specs.Tree.{word, Tree, named, Trees, no_tree, a_tree, no_bracket, Name, Operand, Change, inverse, Statement, gate_call, Statements, no_statement, a_statement}
 use Rattle.scope_env.specs.OpenScopes.{OpenScopes, Opened, Sealed, Named}
 use Rattle.const_eval.specs.Constant.{Constant, part_of_pi}
 use Rattle.const_eval.specs.Refusing.{refused}
-use Rattle.const_eval.specs.Walk.{Walk, within_budget}
+use Rattle.const_eval.specs.Walk.{within_budget}
 use Rattle.const_eval.specs.Binding.{seen_by}
-use Rattle.const_eval.specs.Things.{Known, Gate, Subroutine, Qubits, DefinedGate, DefinedSubroutine, Alias, next_qubits, one_qubit}
+use Rattle.const_eval.specs.Things.{Known, Qubits, DefinedGate, DefinedSubroutine, Alias, next_qubits, one_qubit}
 use Rattle.gate_lists.specs.Instructions.{Instruction}
 use Rattle.source_meaning.specs.Library.{predefined, included, with_rows}
 use Rattle.source_meaning.specs.GateCalls.{turn}

@@ -7,12 +7,12 @@
 use Rattle.std.specs.Prelude.{ℕ, suc, nat_eq, if◌then◌else◌, List, [], pos, Option, Some, None}
 use Rattle.qq_base.specs.declared.refusal.Span.{Span}
 use Rattle.qasm_ast.specs.declared.stmt.StmtId.{StmtId}
-use Rattle.qasm_ast.specs.Tree.{Name, Statement, gate, cut_off}
-use Rattle.scope_env.specs.OpenScopes.{OpenScopes, Outside, Opened, Sealed, Named, find, since, only_of}
+use Rattle.qasm_ast.specs.Tree.{Statement, gate, cut_off}
+use Rattle.scope_env.specs.OpenScopes.{OpenScopes, Outside, Opened, Sealed, Named, find, since}
 use Rattle.const_eval.specs.declared.environment.Callable.{Callable}
 use Rattle.const_eval.specs.declared.environment.Callable.TheVariants as callable
 use Rattle.const_eval.specs.Seen.{MeaningInside, HeldInside, CalledInside, NothingInside}
-use Rattle.const_eval.specs.Things.{Known, Gate, Fixed, TargetRow, DefinedGate, is_seen_in_gate, means_in, named_qubits}
+use Rattle.const_eval.specs.Things.{Known, Gate, Fixed, TargetRow, DefinedGate, means_in, named_qubits}
 use Rattle.gate_arguments.specs.Scope.{Declarations, Scope}
 use Rattle.gate_flatten.specs.Expand.{call_of, expansion}
 use Rattle.source_meaning.specs.GateCalls.{Expands}

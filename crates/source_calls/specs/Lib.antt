@@ -1,3 +1,4 @@
 pub mod Calls
+pub mod Alike
 pub mod Laws
 pub mod CallRows

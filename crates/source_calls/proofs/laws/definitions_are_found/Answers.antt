@@ -1,5 +1,5 @@
 use Rattle.std.proofs.Common.{ap}
-use Rattle.source_calls.specs.Calls.{newest_definition, inside_in}
+use Rattle.source_calls.specs.Calls.{inside_in}
 use Rattle.source_calls.proofs.Numbers.{number_tells, inner_number_tells, newest_found}
 use Rattle.source_calls.proofs.laws.definitions_are_found.Goals as goal
 
