@@ -1,0 +1,11 @@
+pub mod Core
+pub mod CoreRun
+pub mod Cells
+pub mod Made
+pub mod Parts
+pub mod Gates
+pub mod Jumps
+pub mod Makes
+pub mod Elaborated
+pub mod Laws
+pub mod CoreRows
