@@ -7,7 +7,7 @@ use Rattle.qasm_ast.specs.declared.expr.ExprKind.{ExprKind}
 use Rattle.qasm_ast.specs.declared.stmt.Stmt.{Stmt}
 use Rattle.qasm_ast.specs.Tree.{Tree, text_at, tree_of, tree_at, node_of, seen_node}
 use Rattle.qasm_ast.specs.Whole.{ExprFits, StmtFits}
-use Rattle.qasm_parser.specs.State.{State, Lasts, MayAdd, Longer, After, nodes, tree}
+use Rattle.qasm_parser.specs.State.{State, Lasts, MayAdd, MayPush, Longer, After, nodes, tree}
 
 -- ---- members of longer lists
 
@@ -84,6 +84,29 @@ module _ (a b : State) (tokens : b.tokens ≡ a.tokens) (stmts : b.stmts ≡ a.s
     where
       at_last : (n : ℕ) (x : Expr) → (n ≡ length a.exprs) × (node ≡ x) → (m : ℕ) → length a.names ≤ m → ExprFits m n x.kind
       at_last n x (is, same) m more = subst (λ (y : Expr). ExprFits m n y.kind) same (subst (λ k. ExprFits m k node.kind) (sym is) (fits m more))
+
+-- a statement is new
+pub longer_stmt : (a b : State) (stmt : Stmt) → b.tokens ≡ a.tokens → b.names ≡ a.names → b.exprs ≡ a.exprs → b.stmts ≡ a.stmts ++ stmt ∷ [] → MayPush a stmt.kind → Longer a b
+longer_stmt a b stmt tokens names exprs stmts fits = record {
+  tokens = tokens;
+  more_names = [];
+  more_exprs = [];
+  more_stmts = stmt ∷ [];
+  names = names ∙ sym (append-nil a.names);
+  exprs = exprs ∙ sym (append-nil a.exprs);
+  stmts = stmts;
+  sizes = λ k text le h. absurd (beyond a.names b.names names k text le h);
+  exprs_fit = λ n x le h. absurd (beyond a.exprs b.exprs exprs n x le h);
+  stmts_fit = λ n x le h m more_exprs more_stmts le'. at_last n x (last_one a.stmts stmt n x le (subst (λ l. slice_get l n ≡ Some x) stmts h)) m more_exprs more_stmts (omega (arith, le', ap length names));
+}
+  where
+    at_last : (n : ℕ) (x : Stmt) → (n ≡ length a.stmts) × (stmt ≡ x) → (m : ℕ) (more_exprs : List Expr) (more_stmts : List Stmt) → length a.names ≤ m → StmtFits m (b.exprs ++ more_exprs) (b.stmts ++ more_stmts) n x.kind
+    at_last n x (is, same) m more_exprs more_stmts le =
+        subst (λ (y : Stmt). StmtFits m (b.exprs ++ more_exprs) (b.stmts ++ more_stmts) n y.kind) same
+        (subst (λ k. StmtFits m (b.exprs ++ more_exprs) (b.stmts ++ more_stmts) k stmt.kind) (sym is)
+        (subst (λ es. StmtFits m es (b.stmts ++ more_stmts) (length a.stmts) stmt.kind) (sym (ap (λ l. l ++ more_exprs) exprs))
+        (subst (λ ss. StmtFits m (a.exprs ++ more_exprs) ss (length a.stmts) stmt.kind) (sym (ap (λ l. l ++ more_stmts) stmts ∙ append_assoc a.stmts (stmt ∷ []) more_stmts))
+        (fits m more_exprs (stmt ∷ more_stmts) le))))
 
 pub longer_here : (s : State) → Longer s s
 longer_here s = longer_same s s refl refl refl refl

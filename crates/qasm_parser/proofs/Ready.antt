@@ -7,12 +7,14 @@ use Rattle.qasm_ast.specs.declared.expr.Expr.{Expr}
 use Rattle.qasm_ast.specs.declared.expr.ExprId.{ExprId}
 use Rattle.qasm_ast.specs.declared.expr.ExprKind.{ExprKind}
 use Rattle.qasm_ast.specs.declared.expr.ExprKind.TheVariants as e
+use Rattle.qasm_ast.specs.declared.stmt.Stmt.{Stmt}
+use Rattle.qasm_ast.specs.declared.stmt.StmtId.{StmtId}
 use Rattle.qasm_ast.specs.Tree.{tree_of, tree_at, seen_node, place_of, node_of}
 use Rattle.qasm_expr.specs.Seen.{Cut}
 use Rattle.qasm_parser.specs.declared.parser.Parser.TheInside.{Inside}
 use Rattle.qasm_parser.specs.Inside.{state_of, IsReady}
-use Rattle.qasm_parser.specs.State.{MayAdd, Lasts, Longer, After, Skipped, Added, IsSpelled, nodes, first}
-use Rattle.qasm_parser.proofs.Growing.{longer_same, longer_name, longer_node, node_lasts}
+use Rattle.qasm_parser.specs.State.{MayAdd, MayPush, Lasts, Longer, After, Skipped, Added, Pushed, IsSpelled, nodes, first}
+use Rattle.qasm_parser.proofs.Growing.{longer_same, longer_name, longer_node, longer_stmt, node_lasts}
 
 -- ---- the next token
 
@@ -127,6 +129,34 @@ module _ (p q : Inside) (r : IsReady p) (text : q.text.now ≡ p.text.now) (toke
       longer = longer_node (state_of p) (state_of q) tokens stmts (record { kind = kind; at = place }) names exprs fits;
       few_names = omega (arith, ap length names, ap length left_same);
       few_nodes = omega (arith, one_more, ap length stmts, ap length left_same);
+      room = λ none. absurd (omega arith);
+    };
+  }
+
+-- ---- a statement is added
+
+module _ (p q : Inside) (r : IsReady p) (text : q.text.now ≡ p.text.now) (tokens : q.tokens.now ≡ p.tokens.now) (at' : q.at ≡ p.at) (names : q.names.keys ≡ p.names.keys) (exprs : q.exprs.items ≡ p.exprs.items) (stmt : Stmt) (stmts : q.stmts.items ≡ p.stmts.items ++ stmt ∷ []) (fits : MayPush (state_of p) stmt.kind) (room : nodes (state_of p) + length (drop p.at p.tokens.now) + 1 < 2 ^ 32) where
+  longer_by_one : length q.stmts.items ≡ length p.stmts.items + 1
+  longer_by_one = ap length stmts ∙ length-append p.stmts.items (stmt ∷ [])
+
+  left_as_before : drop q.at q.tokens.now ≡ drop p.at p.tokens.now
+  left_as_before = ap (λ k. drop k q.tokens.now) at' ∙ ap (drop p.at) tokens
+
+  pub pushed_ready : IsReady q
+  pushed_ready = ready_by p q r text tokens (omega (arith, at', ap length tokens, r.within)) (omega (arith, ap length names, ap length left_as_before, r.room_for_names)) (omega (arith, longer_by_one, ap length exprs, ap length left_as_before, room))
+
+  pub pushed_stmt : (id : StmtId) → id.0 ≡ length p.stmts.items → Pushed stmt (state_of p) (state_of q) id
+  pushed_stmt id is = record {
+    number = is;
+    names = names;
+    exprs = exprs;
+    stmts = stmts;
+    left = left_as_before;
+    after = record {
+      text = text;
+      longer = longer_stmt (state_of p) (state_of q) stmt tokens names exprs stmts fits;
+      few_names = omega (arith, ap length names, ap length left_as_before);
+      few_nodes = omega (arith, longer_by_one, ap length exprs, ap length left_as_before);
       room = λ none. absurd (omega arith);
     };
   }

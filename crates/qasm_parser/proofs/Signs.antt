@@ -14,7 +14,7 @@ use Rattle.qasm_expr.specs.TokenKinds.{keyword_kind, mark_kind, text_kind, kind_
 use Rattle.qasm_expr.specs.Grammar.{Rows, operators, unary_operators, plain_types, sized_types}
 use Rattle.qasm_expr.specs.Reader.{literal_kinds, type_kinds, expr_kinds}
 use Rattle.qasm_expr.specs.Seen.{first_rows, rows_at}
-use Rattle.qasm_parser.specs.Kinds.{is_mark, sign_of, operator_of, of_level, plain_type_of, sized_type_of, is_type, is_literal, begins_operand}
+use Rattle.qasm_parser.specs.Kinds.{is_mark, is_word, sign_of, operator_of, of_level, plain_type_of, sized_type_of, is_type, is_literal, begins_operand}
 
 -- ---- marks
 
@@ -41,6 +41,28 @@ marks bits t.Name x = no_mark 1 x (omega arith)
 marks bits (t.Whole n) x = no_mark 2 x (omega arith)
 marks bits (t.Version a b) x = no_mark 5 x (omega arith)
 marks bits (t.Hardware n) x = no_mark 6 x (omega arith)
+
+-- ---- words
+
+word_large : (x : Keyword) → 10 ≤ keyword_kind x
+word_large k.OpenQasm = omega arith
+word_large _ = omega arith
+
+text_smaller : (bits : Bool) → text_kind bits < 10
+text_smaller true = omega arith
+text_smaller false = omega arith
+
+no_word : (n : ℕ) (x : Keyword) → n < 10 → (n == keyword_kind x) ≡ false
+no_word n x lt = ne_eqb n (keyword_kind x) (λ e. absurd (omega (arith, word_large x)))
+
+pub words : (bits : Bool) (kind : TokenKind) (x : Keyword) → (kind_of bits kind == keyword_kind x) ≡ is_word kind x
+words bits (t.Word y) x = refl
+words bits (t.Mark y) x = ne_eqb (mark_kind y) (keyword_kind x) (λ e. absurd (omega (arith, mark_large y, word_small x)))
+words bits t.Text x = no_word (text_kind bits) x (text_smaller bits)
+words bits t.Name x = no_word 1 x (omega arith)
+words bits (t.Whole n) x = no_word 2 x (omega arith)
+words bits (t.Version a b) x = no_word 5 x (omega arith)
+words bits (t.Hardware n) x = no_word 6 x (omega arith)
 
 -- ---- operators
 

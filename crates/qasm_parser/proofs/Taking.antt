@@ -4,17 +4,18 @@ use Rattle.std.specs.Prelude.{◌==◌, ◌≢◌}
 use Rattle.std.proofs.lemmas.Bool.{lt-ltb, le-ltb}
 use Rattle.qasm_lexer.specs.declared.token.Token.{Token}
 use Rattle.qasm_lexer.specs.declared.token.TokenKind.{TokenKind}
+use Rattle.qasm_lexer.specs.declared.token.Keyword.{Keyword}
 use Rattle.qasm_lexer.specs.declared.token.Mark.{Mark}
 use Rattle.qasm_lexer.specs.Sizes.{bytes_of}
 use Rattle.grammar_parts.specs.Reading.{Outcome, Reader, syntax, deep, heads, taken, take_one, take_never}
 use Rattle.grammar_parts.specs.Kinds.{has, found_in, is_some, by, marked, picked, with_token, is_free, take_allowed, take_opening}
-use Rattle.qasm_expr.specs.TokenKinds.{bits_of, kind_of, kind, mark_kind}
+use Rattle.qasm_expr.specs.TokenKinds.{bits_of, kind_of, kind, keyword_kind, mark_kind}
 use Rattle.qasm_expr.specs.Reader.{begins, read_opener}
 use Rattle.qasm_parser.specs.State.{State, Read, Takes, Skipped, first}
 use Rattle.qasm_parser.specs.declared.stop.Stop.{Stop}
-use Rattle.qasm_parser.specs.Kinds.{is_mark}
+use Rattle.qasm_parser.specs.Kinds.{is_mark, is_word}
 use Rattle.qasm_parser.specs.Shows.{IsDeeper, IsPower}
-use Rattle.qasm_parser.proofs.Signs.{marks}
+use Rattle.qasm_parser.proofs.Signs.{marks, words}
 
 -- ---- what the next token is
 
@@ -109,16 +110,23 @@ module _ (text : List ℕ) (x : Token) where
   pub marked_as : (mark : Mark) (b : Bool) → is_mark x.kind mark ≡ b → marked (kind text) (mark_kind mark) x ≡ cond b (Some x) None
   marked_as mark b e = ap (λ c. cond c (Some x) None) (marks (is_some (bits_of (bytes_of text x))) x.kind mark ∙ e)
 
+  pub worded_as : (word : Keyword) (b : Bool) → is_word x.kind word ≡ b → marked (kind text) (keyword_kind word) x ≡ cond b (Some x) None
+  worded_as word b e = ap (λ c. cond c (Some x) None) (words (is_some (bits_of (bytes_of text x))) x.kind word ∙ e)
+
   pub picked_as : {A : Type 0} (rows : List (ℕ × A)) (o : Option A) → found_in rows (kind text x) ≡ o → picked (kind text) rows x ≡ with_token x o
   picked_as rows o e = ap (with_token x) e
 
--- ---- marks
+-- ---- words and marks
+
+alone : (b : Bool) → (b || false) ≡ b
+alone true = refl
+alone false = refl
+
+-- the word that is seen
+pub seen_word : (text : List ℕ) (word : Keyword) (ts : List Token) (x : Token) → first ts ≡ Some x → is_word x.kind word ≡ heads (begins text (keyword_kind word ∷ [])) ts
+seen_word text word ts x e = at_first (λ l. is_word x.kind word ≡ heads (begins text (keyword_kind word ∷ [])) l) ts x e (λ rest. sym (words (is_some (bits_of (bytes_of text x))) x.kind word) ∙ sym (alone (kind text x == keyword_kind word)))
 
 module _ (text : List ℕ) (mark : Mark) (ts : List Token) where
-  alone : (b : Bool) → (b || false) ≡ b
-  alone true = refl
-  alone false = refl
-
   -- the token that is seen
   pub seen_mark : (x : Token) → first ts ≡ Some x → is_mark x.kind mark ≡ heads (begins text (mark_kind mark ∷ [])) ts
   seen_mark x e = at_first (λ l. is_mark x.kind mark ≡ heads (begins text (mark_kind mark ∷ [])) l) ts x e (λ rest. sym (marks (is_some (bits_of (bytes_of text x))) x.kind mark) ∙ sym (alone (kind text x == mark_kind mark)))

@@ -2,6 +2,7 @@
 use Rattle.std.specs.Prelude.{ℕ, ◌==◌, Bool, true, false, Option, Some, None, cond}
 use Rattle.qasm_lexer.specs.declared.token.TokenKind.{TokenKind}
 use Rattle.qasm_lexer.specs.declared.token.TokenKind.TheVariants as t
+use Rattle.qasm_lexer.specs.declared.token.Keyword.{Keyword}
 use Rattle.qasm_lexer.specs.declared.token.Keyword.TheVariants as k
 use Rattle.qasm_lexer.specs.declared.token.Mark.{Mark}
 use Rattle.qasm_lexer.specs.declared.token.Mark.TheVariants as m
@@ -11,11 +12,15 @@ use Rattle.qasm_ast.specs.declared.expr.UnaryOp.{UnaryOp}
 use Rattle.qasm_ast.specs.declared.expr.UnaryOp.TheVariants as u
 use Rattle.qasm_ast.specs.declared.expr.BinaryOp.{BinaryOp}
 use Rattle.qasm_ast.specs.declared.expr.BinaryOp.TheVariants as op
-use Rattle.qasm_expr.specs.TokenKinds.{mark_kind}
+use Rattle.qasm_expr.specs.TokenKinds.{keyword_kind, mark_kind}
 
 abbrev pub is_mark : TokenKind → Mark → Bool
 is_mark (t.Mark found) mark = mark_kind found == mark_kind mark
 is_mark _ mark = false
+
+abbrev pub is_word : TokenKind → Keyword → Bool
+is_word (t.Word found) word = keyword_kind found == keyword_kind word
+is_word _ word = false
 
 abbrev pub sign_of : TokenKind → Option UnaryOp
 sign_of (t.Mark m.Tilde) = Some u.Complement

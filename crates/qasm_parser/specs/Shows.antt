@@ -3,6 +3,7 @@ use Rattle.std.specs.Prelude.{◌≡◌, ℕ, suc, ◌<◌, List, [], ◌∷◌,
 use Rattle.qq_base.specs.declared.refusal.Span.{Span}
 use Rattle.qasm_lexer.specs.declared.token.Token.{Token}
 use Rattle.qasm_lexer.specs.declared.token.TokenKind.{TokenKind}
+use Rattle.qasm_lexer.specs.declared.token.Keyword.{Keyword}
 use Rattle.qasm_ast.specs.declared.expr.ExprKind.{ExprKind}
 use Rattle.qasm_ast.specs.declared.expr.BinaryOp.{BinaryOp}
 use Rattle.qasm_ast.specs.declared.expr.Base.{Base}
@@ -14,9 +15,10 @@ use Rattle.qasm_ast.specs.declared.expr.TypeRef.{TypeRef}
 use Rattle.qasm_ast.specs.declared.stmt.Declared.{Declared}
 use Rattle.qasm_ast.specs.Tree.{Tree, node_of, trees, trees_at, Maybe, maybe_at, Bracket, bracket_at, brackets, brackets_at, text_at, Scalar, scalar_of}
 use Rattle.qasm_ast.specs.Whole.{ExprFits, AllOf, IsExpr, IfThere, IndexFits, TypeFits}
-use Rattle.grammar_parts.specs.Reading.{Reader, ◌>>=◌, take_one}
+use Rattle.grammar_parts.specs.Reading.{Reader, done, ◌>>=◌, take_one}
 use Rattle.qasm_expr.specs.Grammar.{Counted, literal_at, literal_of, name_of}
-use Rattle.qasm_expr.specs.Reader.{read_behind_name}
+use Rattle.qasm_expr.specs.TokenKinds.{keyword_kind}
+use Rattle.qasm_expr.specs.Reader.{read_sign, read_behind_name}
 use Rattle.qasm_parser.specs.State.{State, Lasts, Fits}
 
 -- the members of one list stand for those of the other, one for one
@@ -100,3 +102,7 @@ module _ (s : State) where
 -- a name, and what stands behind it
 abbrev pub read_named : List ℕ → ℕ → Reader Token Tree → Reader Token Bracket → Reader Token Tree
 read_named text room inner inside = take_one (name_of text) >>= read_behind_name text room inner inside
+
+-- a word that stands for a name
+abbrev pub read_word_as : List ℕ → Keyword → List ℕ → Reader Token (List ℕ × Span)
+read_word_as text word spelling = read_sign text (keyword_kind word) >>= (λ x. done (spelling, x.at))

@@ -9,6 +9,8 @@ use Rattle.qasm_ast.specs.declared.expr.Expr.{Expr}
 use Rattle.qasm_ast.specs.declared.expr.ExprId.{ExprId}
 use Rattle.qasm_ast.specs.declared.expr.ExprKind.{ExprKind}
 use Rattle.qasm_ast.specs.declared.stmt.Stmt.{Stmt}
+use Rattle.qasm_ast.specs.declared.stmt.StmtId.{StmtId}
+use Rattle.qasm_ast.specs.declared.stmt.StmtKind.{StmtKind}
 use Rattle.qasm_ast.specs.Tree.{Tree, node_of, tree_at, tree_of}
 use Rattle.qasm_ast.specs.Whole.{ExprFits, StmtFits}
 use Rattle.grammar_parts.specs.Reading.{Refusal, Reader, syntax, deep, heads}
@@ -149,3 +151,22 @@ pub record Added (kind : ExprKind) (place : Span) (old new : State) (id : ExprId
 abbrev pub Adds : ExprKind → Span → State → Result ExprId Stop → State → Type 0
 Adds kind place old (Ok id) new = Added kind place old new id
 Adds kind place old (Err e) new = (e ≡ why.Memory) × Longer old new
+
+-- ---- a new statement
+
+-- A statement that may be added: it names what is there, whatever comes behind.
+abbrev pub MayPush : State → StmtKind → Type 0
+MayPush s kind = (names : ℕ) (more_exprs : List Expr) (more_stmts : List Stmt) → length s.names ≤ names → StmtFits names (s.exprs ++ more_exprs) (s.stmts ++ more_stmts) (length s.stmts) kind
+
+-- the statement comes behind the others, and nothing else has changed
+pub record Pushed (stmt : Stmt) (old new : State) (id : StmtId) : Type 0 where
+  pub number : id.0 ≡ length old.stmts
+  pub names : new.names ≡ old.names
+  pub exprs : new.exprs ≡ old.exprs
+  pub stmts : new.stmts ≡ old.stmts ++ stmt ∷ []
+  pub left : new.left ≡ old.left
+  pub after : After 0 1 old new
+
+abbrev pub Pushes : Stmt → State → Result StmtId Stop → State → Type 0
+Pushes stmt old (Ok id) new = Pushed stmt old new id
+Pushes stmt old (Err e) new = (e ≡ why.Memory) × Longer old new

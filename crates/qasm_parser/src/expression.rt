@@ -52,7 +52,7 @@ pub fn parse_expr(
     let mut parser = Parser::resume(alloc, text.as_bytes(), tokens, from, old_names, old_nodes);
     let found = parser.expr(LEVELS - level);
     let at = parser.at();
-    let (new_names, new_nodes) = parser.lists();
+    let (new_names, new_nodes, _) = parser.lists();
     *names = new_names;
     *nodes = new_nodes;
     match found {

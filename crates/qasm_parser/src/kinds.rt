@@ -16,6 +16,16 @@ pub fn is_mark(kind: TokenKind, mark: Mark) -> bool
     }
 }
 
+/// Whether it is this word.
+pub fn is_word(kind: TokenKind, word: Keyword) -> bool
+    ensures { result ≡ kinds.is_word kind word }
+{
+    match kind {
+        TokenKind::Word(found) => found == word,
+        _ => false,
+    }
+}
+
 /// The operator in front of an operand.
 pub fn sign_of(kind: TokenKind) -> Option<UnaryOp>
     ensures { result ≡ kinds.sign_of kind }

@@ -8,17 +8,17 @@ ghost use Rattle.grammar_parts.specs.Reading.{take_one};
 ghost use Rattle.qasm_expr.specs.TokenKinds.{bits_of};
 ghost use Rattle.qasm_expr.specs.Grammar.{name_of};
 ghost use Rattle.qasm_expr.specs.Seen.{Cut};
-ghost use Rattle.qasm_parser.specs.State.{start_of, resumed, nodes, tree, first, IsSpelled, Skipped, Takes, Adds, MayAdd};
-ghost use Rattle.qasm_parser.specs.Shows.{IsWord, IsLeaf};
+ghost use Rattle.qasm_parser.specs.State.{start_of, resumed, nodes, tree, first, IsSpelled, Skipped, Takes, Adds, MayAdd, Pushes, MayPush};
+ghost use Rattle.qasm_parser.specs.Shows.{IsWord, IsLeaf, read_word_as};
 ghost use Rattle.qasm_parser.specs.declared.stop.Stop.TheVariants.{Memory};
 
-use crate::kinds::is_name;
+use crate::kinds::{is_name, is_word};
 use crate::literal::{bits, is_bits, is_text, plain_literal};
 use crate::names::{intern, spelling};
 use crate::stop::Stop;
 use indexmap::IndexSet;
-use qasm_ast::{Declared, Expr, ExprId, ExprKind, Stmt, Word};
-use qasm_lexer::Token;
+use qasm_ast::{Declared, Expr, ExprId, ExprKind, Stmt, StmtId, Word};
+use qasm_lexer::{Keyword, Token};
 use qq_base::Span;
 use std::alloc::Global;
 use std::marker::Model;
@@ -98,13 +98,19 @@ impl<'a> Parser<'a> {
         self.at
     }
 
-    /// Gives up the lists of names and expressions.
-    pub fn lists(self) -> (IndexSet<Word>, Vec<Expr>)
+    /// Gives up the lists of names, expressions and statements.
+    pub fn lists(self) -> (IndexSet<Word>, Vec<Expr>, Vec<Stmt>)
         ensures names { result.0.keys ≡ self.entry.names }
         ensures exprs { result.1.items ≡ self.entry.exprs }
+        ensures stmts { result.2.items ≡ self.entry.stmts }
     {
-        let Parser { names, exprs, .. } = self;
-        (names, exprs)
+        let Parser {
+            names,
+            exprs,
+            stmts,
+            ..
+        } = self;
+        (names, exprs, stmts)
     }
 
     /// The allocator. A list of parts that are still to come is not too long.
@@ -131,6 +137,14 @@ impl<'a> Parser<'a> {
         ensures { Skipped self.old self.new }
     {
         self.at += 1;
+    }
+
+    /// The bytes of a token.
+    pub fn spelling(&self, token: Token) -> &[u8]
+        requires { IsSpelled self.now.text token }
+        ensures { result.now ≡ bytes_of self.now.text token }
+    {
+        spelling(self.text, token)
     }
 
     /// Whether a token is spelled as a bit string.
@@ -171,6 +185,22 @@ impl<'a> Parser<'a> {
         Ok(Declared { name, at: token.at })
     }
 
+    /// Takes a word as a name with this spelling, and gives its number, a new one where it is new.
+    pub fn word_as(&mut self, word: Keyword, spelling: &[u8]) -> Result<Declared, Stop>
+        requires { length spelling.now ≤ 4096 }
+        ensures { Takes IsWord (read_word_as self.old.text word spelling.now) self.old result self.new }
+    {
+        let Some(token) = self.next() else {
+            return Err(Stop::Syntax);
+        };
+        if !is_word(token.kind, word) {
+            return Err(Stop::Syntax);
+        }
+        let name = intern(self.alloc, &mut self.names, spelling)?;
+        self.at += 1;
+        Ok(Declared { name, at: token.at })
+    }
+
     /// Adds a node, and gives its number.
     pub fn node(&mut self, kind: ExprKind, at: Span) -> Result<ExprId, Stop>
         requires room { nodes self.old + length self.old.left + 1 < 2 ^ 32 }
@@ -179,6 +209,19 @@ impl<'a> Parser<'a> {
     {
         let id = ExprId(self.exprs.len() as u32);
         if self.exprs.push(Expr { kind, at }).is_err() {
+            return Err(Stop::Memory);
+        }
+        Ok(id)
+    }
+
+    /// Adds a statement, and gives its number.
+    pub fn push(&mut self, stmt: Stmt) -> Result<StmtId, Stop>
+        requires room { nodes self.old + length self.old.left + 1 < 2 ^ 32 }
+        requires fits { MayPush self.old stmt.kind }
+        ensures { Pushes stmt self.old result self.new }
+    {
+        let id = StmtId(self.stmts.len() as u32);
+        if self.stmts.push(stmt).is_err() {
             return Err(Stop::Memory);
         }
         Ok(id)

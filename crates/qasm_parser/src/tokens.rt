@@ -3,7 +3,7 @@
 ghost use Rattle.std.specs.Prelude.{◌≡◌, ◌<◌, ◌||◌, ◌∷◌, [], Some};
 ghost use Rattle.grammar_parts.specs.Reading.{heads, take_one};
 ghost use Rattle.grammar_parts.specs.Kinds.{by, marked, picked, kinds_of, is_free, take_allowed, take_opening};
-ghost use Rattle.qasm_expr.specs.TokenKinds.{kind, mark_kind};
+ghost use Rattle.qasm_expr.specs.TokenKinds.{kind, keyword_kind, mark_kind};
 ghost use Rattle.qasm_expr.specs.Grammar.{unary_operators, plain_types, sized_types};
 ghost use Rattle.qasm_expr.specs.Reader.{begins, expr_kinds, literal_kinds, type_kinds, read_sign, read_opener};
 ghost use Rattle.qasm_expr.specs.Seen.{rows_at};
@@ -12,13 +12,13 @@ ghost use Rattle.qasm_parser.specs.State.{Takes, Eats};
 ghost use Rattle.qasm_parser.specs.Shows.{Same, IsDeeper, IsPower, IsSign, IsLink, IsPlainBase, IsSizedBase};
 
 use crate::kinds::{
-    begins_operand, is_literal, is_mark, is_type, operator_at, plain_type_of, sign_of,
+    begins_operand, is_literal, is_mark, is_type, is_word, operator_at, plain_type_of, sign_of,
     sized_type_of,
 };
 use crate::parser::Parser;
 use crate::stop::Stop;
 use qasm_ast::{Base, BinaryOp, UnaryOp};
-use qasm_lexer::{Mark, Token};
+use qasm_lexer::{Keyword, Mark, Token};
 use qq_base::Span;
 
 /// The operators that a chain may have.
@@ -31,6 +31,16 @@ impl<'a> Parser<'a> {
     {
         match self.next() {
             Some(token) => is_mark(token.kind, mark),
+            None => false,
+        }
+    }
+
+    /// Whether a word stands next.
+    pub fn sees_word(&self, word: Keyword) -> bool
+        ensures { result ≡ heads (begins self.now.text (keyword_kind word ∷ [])) self.now.left }
+    {
+        match self.next() {
+            Some(token) => is_word(token.kind, word),
             None => false,
         }
     }
@@ -113,6 +123,20 @@ impl<'a> Parser<'a> {
             return Err(Stop::Syntax);
         };
         if !is_mark(token.kind, mark) {
+            return Err(Stop::Syntax);
+        }
+        self.skip();
+        Ok(token)
+    }
+
+    /// Takes a word.
+    pub fn word(&mut self, word: Keyword) -> Result<Token, Stop>
+        ensures { Takes Same (read_sign self.old.text (keyword_kind word)) self.old result self.new }
+    {
+        let Some(token) = self.next() else {
+            return Err(Stop::Syntax);
+        };
+        if !is_word(token.kind, word) {
             return Err(Stop::Syntax);
         }
         self.skip();
