@@ -98,6 +98,13 @@ impl<'a> Parser<'a> {
         self.at
     }
 
+    /// How many tokens are left.
+    pub fn remaining(&self) -> usize
+        ensures { result ≡ length self.now.left }
+    {
+        self.tokens.len() - self.at
+    }
+
     /// Gives up the lists of names, expressions and statements.
     pub fn lists(self) -> (IndexSet<Word>, Vec<Expr>, Vec<Stmt>)
         ensures names { result.0.keys ≡ self.entry.names }
