@@ -131,7 +131,7 @@ module _ (laws : Laws) (means : List ℕ → Meaning) (variable : List ℕ → O
           record {
             typed = ap (λ (x : TypedValue). x.type) value_is;
             in_cells = unary_in_cells o type_a type (pos 0) plan runs.in_cells;
-            valued = let Q : TypedValue → Type 0 = λ x. IsValueOf type x.value in subst Q (sym value_is) (laws.unary_values o type_a type (pos 0) (worth a).value z (laws.unary_plans o type_a type (pos 0) plan) runs.valued ez);
+            valued = let Q : TypedValue → Type 0 = λ x. IsValueOf type x.value in subst Q (sym value_is) (laws.unary_values o type_a type (pos 0) (worth a).value z (laws.unary_plans o type_a (pos 0) type plan) runs.valued ez);
             have = (λ i. map (λ (e : Expr). value_of e cells) (parts_is i)) ∙ hz ∙ ap (λ (x : TypedValue). cells_of_value x.value) (sym value_is);
           }
 
