@@ -1,0 +1,4 @@
+pub mod Found
+pub mod Inside
+pub mod Operands
+pub mod Served
