@@ -1,0 +1,12 @@
+pub mod Firsts
+pub mod Standing
+pub mod Exits
+pub mod Putting
+pub mod Changing
+pub mod Pushing
+pub mod Nesting
+pub mod Bodies
+pub mod Joining
+pub mod Calling
+pub mod Texts
+pub mod Programs

@@ -1,0 +1,14 @@
+use Rattle.std.proofs.Common.{ap, ◌∙◌}
+use Rattle.qasm_expr.specs.Reader.{read_indexes}
+use Rattle.program_parser.proofs.Standing.{brackets_stand}
+use Rattle.program_parser.proofs.Exits.{handed}
+use Rattle.program_parser.proofs.Putting.{inside_is}
+use Rattle.program_parser.proofs.parts.brackets.Goals as goal
+
+pub returns-in_err-found : goal.returns-in_err-found
+returns-in_err-found c = handed _ _ _ _ _ _ c.from_residual.ensures (λ no. ap (λ r. read_indexes c.args.parser.now.text c.args.room r c.args.parser.now.left) (inside_is c.args.parser.now.text c.args.room) ∙ c.in_err-found.ensures.read no)
+
+pub returns : goal.returns
+returns c =
+    let x = c.in_ok-found.ensures in
+    record { value = x.value; shown = brackets_stand _ _ _ x.shown; read = ap (λ r. read_indexes c.args.parser.now.text c.args.room r c.args.parser.now.left) (inside_is c.args.parser.now.text c.args.room) ∙ x.read; after = x.after }
