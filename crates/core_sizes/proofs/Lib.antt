@@ -1,0 +1,5 @@
+pub mod Bodies
+pub mod Costs
+pub mod Parts
+pub mod GateCalls
+pub mod Statements
