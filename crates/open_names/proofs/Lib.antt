@@ -1,0 +1,10 @@
+pub mod Texts
+pub mod Found
+pub mod Kept
+pub mod Last
+pub mod Sums
+pub mod Asked
+pub mod Put
+pub mod Closed
+pub mod StandardNames
+pub mod Things
