@@ -29,6 +29,8 @@ mod names;
 mod scope;
 mod slot;
 mod standard;
+#[cfg(test)]
+mod tests;
 
 pub use laws::names_have_meanings;
 pub use names::OpenNames;
