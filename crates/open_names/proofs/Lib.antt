@@ -8,3 +8,4 @@ pub mod Put
 pub mod Closed
 pub mod StandardNames
 pub mod Things
+pub mod Rows

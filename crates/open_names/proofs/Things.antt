@@ -6,18 +6,19 @@ use Rattle.std.specs.Option.{option_map}
 use Rattle.qasm_ast.specs.Whole.{Source}
 use Rattle.qasm_ast.specs.Tree.{text_at}
 use Rattle.qasm_ast.specs.View.{text_in}
-use Rattle.scope_env.specs.OpenScopes.{OpenScopes, Outside, Opened, Sealed, Named, find, is_same, map_scopes}
+use Rattle.scope_env.specs.OpenScopes.{OpenScopes, Outside, Opened, Sealed, Named, find, is_same, map_scopes, is_here, close}
 use Rattle.const_eval.specs.Meaning.{Meaning}
 use Rattle.const_eval.specs.Things.{meaning_of_thing, means_in}
 use Rattle.open_names.specs.declared.slot.Slot.{Slot}
 use Rattle.open_names.specs.declared.slot.Slot.TheVariants as slot
 use Rattle.open_names.specs.Slots.{thing_in, meaning_of_slot}
-use Rattle.open_names.specs.Standing.{Standing, Stands, scopes_of, things}
+use Rattle.open_names.specs.Standing.{Standing, Stands, scopes_of, things, with_row_slots}
+use Rattle.source_meaning.specs.Library.{with_rows}
 use Rattle.open_names.specs.Meanings.{meanings_from, meanings}
 
 -- ---- things
 
-find-mapped : {A B : Type 0} (f : A → B) (x : List ℕ) (scopes : OpenScopes A) → find x (map_scopes f scopes) ≡ option_map f (find x scopes)
+pub find-mapped : {A B : Type 0} (f : A → B) (x : List ℕ) (scopes : OpenScopes A) → find x (map_scopes f scopes) ≡ option_map f (find x scopes)
 find-mapped f x Outside = refl
 find-mapped f x (Opened outer) = find-mapped f x outer
 find-mapped f x (Sealed seen callers) = find-mapped f x seen
@@ -26,6 +27,22 @@ find-mapped {A} {B} f x (Named y a rest) = by (is_same x y) (find-mapped f x res
     by : (same : Bool) → find x (map_scopes f rest) ≡ option_map f (find x rest) → cond same (Some (f a)) (find x (map_scopes f rest)) ≡ option_map f (cond same (Some a) (find x rest))
     by true rest_is = refl
     by false rest_is = rest_is
+
+pub is_here-mapped : {A B : Type 0} (f : A → B) (x : List ℕ) (scopes : OpenScopes A) → is_here x (map_scopes f scopes) ≡ is_here x scopes
+is_here-mapped f x Outside = refl
+is_here-mapped f x (Opened outer) = refl
+is_here-mapped f x (Sealed seen callers) = refl
+is_here-mapped f x (Named y a rest) = ap (λ (b : Bool). cond (is_same x y) true b) (is_here-mapped f x rest)
+
+pub close-mapped : {A B : Type 0} (f : A → B) (scopes : OpenScopes A) → close (map_scopes f scopes) ≡ map_scopes f (close scopes)
+close-mapped f Outside = refl
+close-mapped f (Opened outer) = refl
+close-mapped f (Sealed seen callers) = refl
+close-mapped f (Named y a rest) = close-mapped f rest
+
+pub rows-mapped : {A : Type 0} (p : Source) (rows : List (List ℕ × ℕ)) (scopes : OpenScopes (Slot A)) → map_scopes (thing_in p) (with_row_slots rows scopes) ≡ with_rows rows (map_scopes (thing_in p) scopes)
+rows-mapped p [] scopes = refl
+rows-mapped p (entry ∷ rows) scopes = rows-mapped p rows (Named entry.0 (slot.Row (record { 0 = entry.1 })) scopes)
 
 module _ {A : Type 0} where
   -- one thing more

@@ -6,3 +6,4 @@ pub mod Keys
 pub mod Standing
 pub mod Keeping
 pub mod Meanings
+pub mod Laws

@@ -1,11 +1,13 @@
 -- What a contract sees of the open names of a program: the program, its global names and the names of the scopes that are open
 -- within. A name is a number in the lists, and a text in the open scopes.
 use Rattle.std.specs.Prelude.{◌≡◌, ℕ, Bool, true, false, List, [], ◌∷◌}
+use Rattle.std.specs.List.{list_any}
 use Rattle.qasm_ast.specs.Whole.{Source}
 use Rattle.qasm_ast.specs.Tree.{text_at}
-use Rattle.scope_env.specs.OpenScopes.{OpenScopes, Outside, Opened, Sealed, Named, map_scopes}
+use Rattle.scope_env.specs.OpenScopes.{OpenScopes, Outside, Opened, Sealed, Named, is_here, map_scopes}
 use Rattle.const_eval.specs.Things.{Thing}
 use Rattle.open_names.specs.declared.slot.Slot.{Slot}
+use Rattle.open_names.specs.declared.slot.Slot.TheVariants as slot
 use Rattle.open_names.specs.declared.names.Inner.{Inner}
 use Rattle.open_names.specs.Slots.{thing_in}
 use Rattle.open_names.specs.Texts.{texts}
@@ -44,3 +46,14 @@ is_top Outside = true
 is_top (Opened outer) = false
 is_top (Sealed seen callers) = false
 is_top (Named x a rest) = is_top rest
+
+-- ---- the library
+
+-- the open scopes with names for rows of the target table
+abbrev pub with_row_slots : {A : Type 0} → List (List ℕ × ℕ) → OpenScopes (Slot A) → OpenScopes (Slot A)
+with_row_slots [] scopes = scopes
+with_row_slots (entry ∷ entries) scopes = with_row_slots entries (Named entry.0 (slot.Row (record { 0 = entry.1 })) scopes)
+
+-- whether the innermost scope has one of these names
+abbrev pub has_one_of : {A : Type 0} → List (List ℕ × ℕ) → OpenScopes A → Bool
+has_one_of entries scopes = list_any (λ (entry : List ℕ × ℕ). is_here entry.0 scopes) entries

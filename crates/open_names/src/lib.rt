@@ -15,11 +15,12 @@
 //
 // - of `OpenNames::new`, that the things are the predefined ones, and of `open`, `close` and `declare`, the scopes with one scope or
 //   one name more or less; that `Redeclared` comes exactly where the innermost scope has the name, and that what is refused changes
-//   nothing;
+//   nothing; of `include`, the scopes with the names of the library;
 // - of `find` and `is_here`, that they answer what the definitions of the same name say of the open scopes;
 // - of `cells` and `qubits`, the cells in scope and the qubits declared so far, which are kept and not counted again;
 // - that it is an environment of constant expressions (`meanings` in `specs/Meanings.antt`), which answers for each name of the program
-//   (`names_have_meanings`).
+//   (`names_have_meanings`);
+// - the law `things_follow_slots`: what is said of the open scopes holds of the things in them.
 #![tactic(auto)]
 
 mod counts;
@@ -32,6 +33,6 @@ mod standard;
 #[cfg(test)]
 mod tests;
 
-pub use laws::names_have_meanings;
+pub use laws::{names_have_meanings, things_follow_slots};
 pub use names::OpenNames;
 pub use slot::{Register, Slot};

@@ -4,7 +4,7 @@ ghost use Rattle.std.specs.Option.{option_copied};
 ghost use Rattle.qasm_ast.specs.View.{text_in};
 ghost use Rattle.qasm_ast.specs.Tree.{text_at};
 ghost use Rattle.scope_env.specs.Fault.{value_of};
-ghost use Rattle.source_meaning.specs.Library.{predefined};
+ghost use Rattle.source_meaning.specs.Library.{included, predefined};
 ghost use Rattle.scope_env.specs.OpenScopes.{Outside, Named, Opened, find, is_here, close};
 ghost use Rattle.const_eval.specs.Things.{cells_in_scope, declared_qubits};
 ghost use Rattle.open_names.specs.Counted.{counted};
@@ -12,7 +12,7 @@ ghost use Rattle.open_names.specs.Counted.{counted};
 use crate::counts::Counts;
 use crate::scope::Scope;
 use crate::slot::Slot;
-use crate::standard::standard_key;
+use crate::standard::{library_row, standard_key};
 use angle_arith::PiFraction;
 use const_eval::Const;
 use qasm_ast::Program;
@@ -57,7 +57,7 @@ impl<'p, A> Model for OpenNames<'p, A> {
 
 impl<'p, A: Drop> OpenNames<'p, A> {
     ghost use Rattle.open_names.specs.Texts.{texts, standard_names};
-    ghost use Rattle.open_names.specs.Standing.{Stands, scopes_of, things, is_top};
+    ghost use Rattle.open_names.specs.Standing.{Stands, scopes_of, things, is_top, with_row_slots, has_one_of};
     ghost use Rattle.open_names.specs.Keys.{IsKey};
 
     /// The names that a program has without declaring them. The allocator is kept for all that is declared later.
@@ -207,10 +207,59 @@ impl<'p, A: Drop> OpenNames<'p, A> {
         requires { name < length self.now.program.names }
         ensures { result ≡ is_here (text_in self.now.program name) (scopes_of self.now) }
     {
+        let _ = &self.program;
+        self.has(name)
+    }
+
+    /// Whether the innermost scope has the name with this number.
+    fn has(&self, key: u32) -> bool
+        requires { IsKey (texts self.now.program) key }
+        ensures { result ≡ is_here (text_at (texts self.now.program) key) (scopes_of self.now) }
+    {
         match self.inner.last() {
-            Some(scope) => scope.names.find(name).is_some(),
-            None => self.globals.find(name).is_some(),
+            Some(scope) => scope.names.find(key).is_some(),
+            None => self.globals.find(key).is_some(),
         }
+    }
+
+    /// Declares the names of the library in the innermost scope.
+    ///
+    /// Refused where that scope has one of them, and then nothing is changed, and for want of memory.
+    pub fn include(&mut self) -> Result<(), DeclareFault<()>>
+        ensures ok { OnOk result (Stands self.old.program (with_row_slots included (scopes_of self.old)) self.new) }
+        ensures redeclared { (result ≡ Err (DeclareFault.Redeclared tt)) ↔ IsTrue (has_one_of included (scopes_of self.old)) }
+        ensures refused { result ≡ Err (DeclareFault.Redeclared tt) → self.new ≡ self.old }
+    {
+        if self.has_library() {
+            return Err(DeclareFault::Redeclared(()));
+        }
+        match self.put_library() {
+            Ok(()) => Ok(()),
+            Err(NoMemory) => Err(DeclareFault::Memory(())),
+        }
+    }
+
+    /// Whether the innermost scope has a name of the library.
+    fn has_library(&self) -> bool
+        ensures { result ≡ has_one_of included (scopes_of self.now) }
+    {
+        for place in 0..32u8 {
+            let key = standard_key(self.program, place + 6);
+            if self.has(key) {
+                return true;
+            }
+        }
+        false
+    }
+
+    /// Declares the names of the library.
+    fn put_library(&mut self) -> Result<(), NoMemory>
+        ensures { OnOk result (Stands self.old.program (with_row_slots included (scopes_of self.old)) self.new) }
+    {
+        for place in 0..32u8 {
+            self.put_standard(place + 6, Slot::Row(library_row(place)))?;
+        }
+        Ok(())
     }
 
     /// The cells in scope, counted up to 2^64 - 1.

@@ -1,10 +1,12 @@
 //! The names that a program has without declaring them.
-ghost use Rattle.std.specs.Prelude.{◌≡◌, ◌<◌, ◌^◌, length};
+ghost use Rattle.std.specs.Prelude.{◌≡◌, ◌+◌, ◌<◌, ◌^◌, Some, length, slice_get};
 ghost use Rattle.qasm_ast.specs.Tree.{text_at};
+ghost use Rattle.source_meaning.specs.Library.{included};
 ghost use Rattle.open_names.specs.Texts.{texts, standard_names};
 ghost use Rattle.open_names.specs.Keys.{IsKey};
 
 use qasm_ast::Program;
+use qq_base::GateId;
 
 /// The text of a standard name.
 fn standard_text(index: u8) -> &'static [u8]
@@ -52,6 +54,48 @@ fn standard_text(index: u8) -> &'static [u8]
         37 => b"cphase",
         _ => unreachable!(),
     }
+}
+
+/// The row of the target table that a name of the library stands for, by the place of the name in the library.
+pub fn library_row(place: u8) -> GateId
+    requires { place < 32 }
+    ensures { slice_get included place ≡ Some (text_at standard_names (place + 6), result.0) }
+{
+    GateId(match place {
+        0 => 0,
+        1 => 1,
+        2 => 2,
+        3 => 3,
+        4 => 4,
+        5 => 5,
+        6 => 6,
+        7 => 7,
+        8 => 8,
+        9 => 10,
+        10 => 11,
+        11 => 12,
+        12 => 13,
+        13 => 14,
+        14 => 15,
+        15 => 16,
+        16 => 17,
+        17 => 18,
+        18 => 19,
+        19 => 20,
+        20 => 21,
+        21 => 22,
+        22 => 23,
+        23 => 24,
+        24 => 25,
+        25 => 27,
+        26 => 28,
+        27 => 29,
+        28 => 15,
+        29 => 11,
+        30 => 11,
+        31 => 19,
+        _ => unreachable!(),
+    })
 }
 
 /// The number of a standard name: its number in the program, where it occurs there.

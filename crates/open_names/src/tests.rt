@@ -4,19 +4,19 @@ use crate::{OpenNames, Slot};
 use const_eval::{Constants, Lookup};
 use qasm_ast::{Items, Program, Word};
 use qasm_types::Ty;
-use qq_base::Span;
+use qq_base::{GateId, Span};
 use scope_env::DeclareFault;
 use std::alloc::Global;
 use std::test::Fail;
 
-/// A program with the names `a`, `b` and `pi`, and with no statements.
+/// A program with the names `a`, `h` and `pi`, and with no statements.
 fn program(alloc: Global) -> Result<Program, Fail> {
     let names = vec![in alloc;
         Word {
             items: b"a".to_vec(alloc)?,
         },
         Word {
-            items: b"b".to_vec(alloc)?,
+            items: b"h".to_vec(alloc)?,
         },
         Word {
             items: b"pi".to_vec(alloc)?,
@@ -54,5 +54,16 @@ fn scopes_open_and_close(rt: HostRuntime) -> Result<(), Fail> {
     assert!(rt; matches!(names.lookup(1), Lookup::Unknown));
     assert_eq!(rt; names.cells(), 5);
     assert_eq!(rt; names.qubits(), 0);
+    Ok(())
+}
+
+#[test]
+fn the_library_is_included_once(rt: HostRuntime) -> Result<(), Fail> {
+    let program = program(rt.alloc())?;
+    let mut names: OpenNames<'_, u32> = OpenNames::new(rt.alloc(), &program)?;
+    assert!(rt; names.include().is_ok());
+    assert!(rt; matches!(names.include(), Err(DeclareFault::Redeclared(()))));
+    assert!(rt; names.find(0).is_none());
+    assert!(rt; matches!(names.find(1), Some(Slot::Row(GateId(3)))));
     Ok(())
 }
