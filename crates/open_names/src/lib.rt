@@ -30,8 +30,6 @@ mod names;
 mod scope;
 mod slot;
 mod standard;
-#[cfg(test)]
-mod tests;
 
 pub use laws::{names_have_meanings, things_follow_slots};
 pub use names::OpenNames;
