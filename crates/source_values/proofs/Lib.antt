@@ -1,0 +1,4 @@
+pub mod RegisterBits
+pub mod Reducing
+pub mod Casting
+pub mod Turning
